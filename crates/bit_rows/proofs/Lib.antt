@@ -1,0 +1,4 @@
+pub mod LaneLemmas
+pub mod BitLemmas
+pub mod RowLemmas
+pub mod FirstLemmas

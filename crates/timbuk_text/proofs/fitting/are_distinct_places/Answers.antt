@@ -1,0 +1,18 @@
+use Rattle.std.proofs.Common.{◌≡◌}
+use Rattle.std.specs.Prelude.{IsTrue, ◌↔◌}
+use Rattle.std.specs.List.{IsDistinct}
+use Rattle.std.specs.List.Sorted.{IsPermutation}
+use Rattle.std.specs.Ordering.{eq_by_cmp}
+use Rattle.std.specs.Ordering.{nat_cmp}
+use Rattle.std.proofs.lemmas.Cmp.{nat_cmp_total}
+use Rattle.std.proofs.lemmas.Map.Lookups.{exact_unsigned}
+use Rattle.timbuk_text.proofs.Rising.{distinct_sorted}
+use Rattle.timbuk_text.proofs.fitting.are_distinct_places.Goals as goal
+
+pub returns : goal.returns
+returns c =
+    let copied : c.in_ok-sorted.sorted.items ≡ c.args.places.now = c.in_ok-sorted.ensures.items in
+    let moved : IsPermutation c.args.places.now c.sort.new.self.items = rw (← copied) c.sort.ensures.permutation in
+    let both = distinct_sorted nat_cmp_total exact_unsigned c.args.places.now c.sort.new.self.items moved in
+    let test : IsTrue c.rises.result ↔ IsDistinct (eq_by_cmp nat_cmp) c.sort.new.self.items = rw (← c.deref.ensures.value) c.rises.ensures in
+    (λ yes. both.0 (test.0 yes), λ apart. test.1 (both.1 apart))

@@ -1,0 +1,17 @@
+use Rattle.std.proofs.Common.{◌≡◌}
+use Rattle.std.specs.Prelude.{IsTrue, ◌↔◌}
+use Rattle.std.specs.List.{IsDistinct}
+use Rattle.std.specs.List.Sorted.{IsPermutation}
+use Rattle.std.specs.Ordering.{eq_by_cmp}
+use Rattle.tree_definitions.specs.Canonical.{rule_cmp}
+use Rattle.tree_definitions.proofs.CanonicalForms.{rules_total, rules_exact}
+use Rattle.timbuk_text.proofs.Rising.{distinct_sorted}
+use Rattle.timbuk_text.proofs.fitting.are_distinct_rules.Goals as goal
+
+pub returns : goal.returns
+returns c =
+    let copied : c.in_ok-sorted.sorted.items ≡ c.args.rules.now = c.in_ok-sorted.ensures.items_if_clones_equal (λ x y same. same) in
+    let moved : IsPermutation c.args.rules.now c.sort.new.self.items = rw (← copied) c.sort.ensures.permutation in
+    let both = distinct_sorted rules_total rules_exact c.args.rules.now c.sort.new.self.items moved in
+    let test : IsTrue c.rises.result ↔ IsDistinct (eq_by_cmp rule_cmp) c.sort.new.self.items = rw (← c.deref.ensures.value) c.rises.ensures in
+    (λ yes. both.0 (test.0 yes), λ apart. test.1 (both.1 apart))

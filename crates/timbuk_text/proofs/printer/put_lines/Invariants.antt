@@ -1,0 +1,7 @@
+use Rattle.std.proofs.Common.{◌≡◌, ◌++◌, take}
+use Rattle.std.specs.List.{flat_map}
+use Rattle.timbuk_text.specs.Text.{rule_text}
+use Rattle.timbuk_text.proofs.printer.put_lines.Given as goal
+
+abbrev pub invariant-loop-rule : goal.invariant-loop-rule
+invariant-loop-rule l = l.out.items ≡ l.fn.out.items ++ flat_map (rule_text l.symbols l.states) (take l.rule-index l.rules)

@@ -1,0 +1,184 @@
+//! The canonical text of an automaton.
+
+ghost use Rattle.std.specs.Prelude.{◌≡◌, ◌<◌, ◌++◌, ◌∷◌, [], codes, length, map, All, IfOk, OnOk};
+ghost use Rattle.std.specs.List.{flat_map};
+ghost use Rattle.tree_definitions.specs.Canonical.{canon};
+ghost use Rattle.ta_model.specs.Listing.{IsListed};
+ghost use Rattle.timbuk_text.specs.Fitting.{IsRuleOver};
+ghost use Rattle.timbuk_text.specs.Text.{blank, finals_text, kids_text, name_at, ops_text, plain_text, rule_text, rules_text, op_text, states_text, symbol_at, title_text};
+
+use std::alloc::{AllocError, Global};
+use ta_model::{Listed, Name, Rule, Symbol};
+
+/// The text of the automaton with its finals and rules in rising order.
+pub fn print(a: &Listed) -> Result<Vec<u8>, AllocError>
+    ensures { IfOk result (λ v. v.items ≡ plain_text (canon a.now)) }
+{
+    plain(&a.canon()?)
+}
+
+/// The text of the automaton with its finals and rules in their order.
+#[tactic(auto, unfolding(crate::specs::Text::plain_text))]
+pub fn plain(a: &Listed) -> Result<Vec<u8>, AllocError>
+    ensures { IfOk result (λ v. v.items ≡ plain_text a.now) }
+{
+    let mut out = Vec::new(a.allocator());
+    put_ops(&mut out, a.symbols())?;
+    put_title(&mut out, a.name())?;
+    put_states(&mut out, a.states())?;
+    put_finals(&mut out, a.states(), a.finals())?;
+    put_rules(&mut out, a.symbols(), a.states(), a.rules())?;
+    Ok(out)
+}
+
+fn put_ops(out: &mut Vec<u8>, symbols: &[Symbol]) -> Result<(), AllocError>
+    ensures { OnOk result (out.new.items ≡ out.old.items ++ ops_text symbols.now) }
+{
+    out.extend_from_slice(b"Ops")?;
+    for symbol in symbols {
+        put_op(out, symbol)?;
+    }
+    out.push(b'\n')?;
+    Ok(())
+}
+
+fn put_op(out: &mut Vec<u8>, symbol: &Symbol) -> Result<(), AllocError>
+    ensures { OnOk result (out.new.items ≡ out.old.items ++ blank (op_text symbol.now)) }
+{
+    out.push(b' ')?;
+    out.extend_from_slice(symbol.name.bytes())?;
+    out.push(b':')?;
+    let rank = symbol.rank.to_string(*out.allocator())?;
+    out.extend_from_slice(rank.as_bytes())?;
+    Ok(())
+}
+
+fn put_title(out: &mut Vec<u8>, name: &Name) -> Result<(), AllocError>
+    ensures { OnOk result (out.new.items ≡ out.old.items ++ title_text name.now) }
+{
+    out.extend_from_slice(b"Automaton ")?;
+    out.extend_from_slice(name.bytes())?;
+    out.push(b'\n')?;
+    Ok(())
+}
+
+fn put_states(out: &mut Vec<u8>, states: &[Name]) -> Result<(), AllocError>
+    ensures { OnOk result (out.new.items ≡ out.old.items ++ states_text states.now) }
+{
+    out.extend_from_slice(b"States")?;
+    for state in states {
+        out.push(b' ')?;
+        out.extend_from_slice(state.bytes())?;
+    }
+    out.push(b'\n')?;
+    Ok(())
+}
+
+fn put_finals(out: &mut Vec<u8>, states: &[Name], finals: &[u32]) -> Result<(), AllocError>
+    requires { All (λ q. q < length states.now) finals.now }
+    ensures { OnOk result (out.new.items ≡ out.old.items ++ finals_text states.now finals.now) }
+{
+    out.extend_from_slice(b"Final States")?;
+    put_blanks(out, states, finals)?;
+    out.push(b'\n')?;
+    Ok(())
+}
+
+fn put_blanks(out: &mut Vec<u8>, states: &[Name], finals: &[u32]) -> Result<(), AllocError>
+    requires { All (λ q. q < length states.now) finals.now }
+    ensures { OnOk result (out.new.items ≡ out.old.items ++ flat_map (λ q. blank (name_at states.now q)) finals.now) }
+{
+    for place in finals {
+        out.push(b' ')?;
+        put_name(out, states, *place)?;
+    }
+    Ok(())
+}
+
+fn put_name(out: &mut Vec<u8>, names: &[Name], place: u32) -> Result<(), AllocError>
+    requires { place < length names.now }
+    ensures { OnOk result (out.new.items ≡ out.old.items ++ name_at names.now place) }
+{
+    out.extend_from_slice(names[place as usize].bytes())?;
+    Ok(())
+}
+
+fn put_symbol(out: &mut Vec<u8>, symbols: &[Symbol], place: u32) -> Result<(), AllocError>
+    requires { place < length symbols.now }
+    ensures { OnOk result (out.new.items ≡ out.old.items ++ symbol_at symbols.now place) }
+{
+    let symbol = &symbols[place as usize];
+    out.extend_from_slice(symbol.name.bytes())?;
+    Ok(())
+}
+
+fn put_kids(out: &mut Vec<u8>, states: &[Name], kids: &[u32]) -> Result<(), AllocError>
+    requires { All (λ q. q < length states.now) kids.now }
+    ensures { OnOk result (out.new.items ≡ out.old.items ++ kids_text states.now kids.now) }
+{
+    let Some((first, others)) = kids.split_first() else {
+        return Ok(());
+    };
+    out.push(b'(')?;
+    put_name(out, states, *first)?;
+    put_others(out, states, others)?;
+    out.push(b')')?;
+    Ok(())
+}
+
+fn put_others(out: &mut Vec<u8>, states: &[Name], kids: &[u32]) -> Result<(), AllocError>
+    requires { All (λ q. q < length states.now) kids.now }
+    ensures { OnOk result (out.new.items ≡ out.old.items ++ flat_map (λ p. 44 ∷ name_at states.now p) kids.now) }
+{
+    for place in kids {
+        out.push(b',')?;
+        put_name(out, states, *place)?;
+    }
+    Ok(())
+}
+
+fn put_rule(
+    out: &mut Vec<u8>,
+    symbols: &[Symbol],
+    states: &[Name],
+    rule: &Rule,
+) -> Result<(), AllocError>
+    requires { IsRuleOver symbols.now (length states.now) rule.now }
+    ensures { OnOk result (out.new.items ≡ out.old.items ++ rule_text symbols.now states.now rule.now) }
+{
+    put_symbol(out, symbols, rule.symbol)?;
+    put_kids(out, states, rule.kids.as_slice())?;
+    out.extend_from_slice(b" -> ")?;
+    put_name(out, states, rule.parent)?;
+    out.push(b'\n')?;
+    Ok(())
+}
+
+fn put_rules(
+    out: &mut Vec<u8>,
+    symbols: &[Symbol],
+    states: &[Name],
+    rules: &[Rule],
+) -> Result<(), AllocError>
+    requires { All (IsRuleOver symbols.now (length states.now)) rules.now }
+    ensures { OnOk result (out.new.items ≡ out.old.items ++ rules_text symbols.now states.now rules.now) }
+{
+    out.extend_from_slice(b"Transitions\n")?;
+    put_lines(out, symbols, states, rules)?;
+    Ok(())
+}
+
+fn put_lines(
+    out: &mut Vec<u8>,
+    symbols: &[Symbol],
+    states: &[Name],
+    rules: &[Rule],
+) -> Result<(), AllocError>
+    requires { All (IsRuleOver symbols.now (length states.now)) rules.now }
+    ensures { OnOk result (out.new.items ≡ out.old.items ++ flat_map (rule_text symbols.now states.now) rules.now) }
+{
+    for rule in rules {
+        put_rule(out, symbols, states, rule)?;
+    }
+    Ok(())
+}

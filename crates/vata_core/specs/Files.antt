@@ -1,0 +1,46 @@
+-- What the files of a request say.
+use Rattle.std.specs.Prelude.{◌≡◌, ℕ, ◌<◌, ◌≤◌, List, length, take, None, Some, ⊤}
+use Rattle.std.specs.declared.option.Option.{Option}
+use Rattle.std.specs.List.{AllZip}
+use Rattle.vata_outside.specs.Outside.{File, bytes_of}
+use Rattle.tree_definitions.specs.Automaton.{Automaton}
+use Rattle.tree_definitions.specs.Relation.{IsAt}
+use Rattle.timbuk_text.specs.Plain.{IsPlainTextOf}
+
+-- more bytes than an automaton's file may have, which is 32 mebibytes
+abbrev pub IsTooLong : List ℕ → Type 0
+IsTooLong bytes = 33554432 < length bytes
+
+-- the bytes are the text of A
+pub record Spells (bytes : List ℕ) (A : Automaton) : Type 0 where
+  pub short : length bytes ≤ 33554432
+  pub text : IsPlainTextOf bytes A
+
+-- the bytes are not too many, and no automaton's text
+pub record SpellsNone (bytes : List ℕ) : Type 0 where
+  pub short : length bytes ≤ 33554432
+  pub none : (A : Automaton) → ¬ IsPlainTextOf bytes A
+
+-- where the files are told, there is one of that name, and its bytes have P
+abbrev pub Told : Option (List File) → List ℕ → (List ℕ → Type 0) → Type 0
+Told None name P = ⊤
+Told (Some fs) name P = (bytes : List ℕ) × (bytes_of name fs ≡ Some bytes) × P bytes
+
+-- the file of that name spells A, where it is told
+abbrev pub IsSpelled : Option (List File) → List ℕ → Automaton → Type 0
+IsSpelled files name A = Told files name (λ bytes. Spells bytes A)
+
+-- the files of these names spell these automata
+abbrev pub AreSpelled : Option (List File) → List (List ℕ) → List Automaton → Type 0
+AreSpelled files names As = AllZip (IsSpelled files) names As
+
+-- the name stands at the place, and the files of the names before it spell automata
+pub record ComesTo (files : Option (List File)) (names : List (List ℕ)) (place : ℕ) (name : List ℕ) : Type 0 where
+  pub stands : IsAt names place name
+  pub before : (As : List Automaton) × AreSpelled files (take place names) As
+
+-- the files before the one at the place spell automata, and the bytes of that one have P
+pub record IsRefused (files : Option (List File)) (names : List (List ℕ)) (P : List ℕ → Type 0) (place : ℕ) : Type 0 where
+  pub name : List ℕ
+  pub first : ComesTo files names place name
+  pub reason : Told files name P

@@ -1,0 +1,33 @@
+-- The lines that tell why a run has no answer.
+use Rattle.std.specs.Prelude.{◌⊎◌, ℕ, ◌+◌, List, ◌++◌, codes}
+use Rattle.std.specs.declared.option.Option.{Option}
+use Rattle.std.specs.Fmt.{decimal}
+use Rattle.std.specs.Io.KnownBytes.{Appends}
+use Rattle.vata_outside.specs.Outside.{AppendsPrefix, Rose}
+
+unfoldable pub usage_line : List ℕ
+usage_line = codes "usage: not built yet\n"
+
+-- files are numbered from 1 in a line
+abbrev pub file_number : ℕ → List ℕ
+file_number place = decimal (place + 1)
+
+unfoldable pub syntax_line : ℕ → List ℕ
+syntax_line place = codes "syntax: file " ++ file_number place ++ codes "\n"
+
+unfoldable pub bytes_line : ℕ → List ℕ
+bytes_line place = codes "limit: file " ++ file_number place ++ codes " bytes\n"
+
+unfoldable pub read_line : ℕ → List ℕ
+read_line place = codes "read fault: file " ++ file_number place ++ codes "\n"
+
+unfoldable pub write_line : List ℕ
+write_line = codes "write fault\n"
+
+unfoldable pub memory_line : List ℕ
+memory_line = codes "memory\n"
+
+-- the line was written whole, or after a fault a prefix of it
+pub record Tells (old new : Option (List ℕ)) (before now : ℕ) (line : List ℕ) : Type 0 where
+  pub whole : Appends old new line ⊎ Rose before now
+  pub part : AppendsPrefix old new line

@@ -1,0 +1,60 @@
+-- How a run ends.
+use Rattle.std.specs.Prelude.{◌≡◌, ◌⊎◌, ℕ, List}
+use Rattle.std.specs.declared.option.Option.{Option}
+use Rattle.std.specs.Io.KnownBytes.{Appends}
+use Rattle.vata_outside.specs.Outside.{AppendsPrefix, File, IsMissing, Rose}
+use Rattle.tree_definitions.specs.Automaton.{Automaton}
+use Rattle.vata_core.specs.Request.{Request, files_of}
+use Rattle.vata_core.specs.Answer.{Answer, IsRight, answer_text, status_of}
+use Rattle.vata_core.specs.Files.{AreSpelled, ComesTo}
+use Rattle.vata_core.specs.declared.status.Status.{Status}
+use Rattle.vata_core.specs.declared.status.Status.TheVariants.{Done, No, Usage, Undecided, Syntax, Limit, ReadFault, WriteFault, Memory}
+
+-- the statuses of a run that wrote its answer
+abbrev pub IsAnswered : Status → Type 0
+IsAnswered Done = Unit {0}
+IsAnswered No = Unit {0}
+IsAnswered Usage = ⊥
+IsAnswered Undecided = Unit {0}
+IsAnswered Syntax = ⊥
+IsAnswered Limit = ⊥
+IsAnswered ReadFault = ⊥
+IsAnswered WriteFault = ⊥
+IsAnswered Memory = ⊥
+
+-- the statuses of a run that wrote nothing
+abbrev pub IsSilent : Status → Type 0
+IsSilent Done = ⊥
+IsSilent No = ⊥
+IsSilent Usage = Unit {0}
+IsSilent Undecided = ⊥
+IsSilent Syntax = Unit {0}
+IsSilent Limit = Unit {0}
+IsSilent ReadFault = Unit {0}
+IsSilent WriteFault = ⊥
+IsSilent Memory = Unit {0}
+
+-- a right answer for the automata of the request's files
+pub record HasAnswer (files : Option (List File)) (request : Request) (answer : Answer) : Type 0 where
+  pub automata : List Automaton
+  pub spelled : AreSpelled files (files_of request) automata
+  pub right : IsRight request automata answer
+
+-- what was written is the text of a right answer, and the status is that of the answer
+pub record Answers (files : Option (List File)) (old new : Option (List ℕ)) (status : Status) (request : Request) : Type 0 where
+  pub answer : Answer
+  pub right : HasAnswer files request answer
+  pub written : Appends old new (answer_text answer)
+  pub status_is : status ≡ status_of answer
+
+-- what was written is a prefix of the text of a right answer
+pub record AnswersInPart (files : Option (List File)) (old new : Option (List ℕ)) (request : Request) : Type 0 where
+  pub answer : Answer
+  pub right : HasAnswer files request answer
+  pub written : AppendsPrefix old new (answer_text answer)
+
+-- the files before the one at the place spell automata; that one could not be read to its end, or it is missing
+pub record FailsToRead (files : Option (List File)) (names : List (List ℕ)) (before now : ℕ) (place : ℕ) : Type 0 where
+  pub name : List ℕ
+  pub first : ComesTo files names place name
+  pub cause : Rose before now ⊎ IsMissing files name

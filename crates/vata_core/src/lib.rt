@@ -1,0 +1,13 @@
+//! What the programs do: the top calls, from the words of a command line to the bytes that are
+//! written and the status.
+#![tactic(auto)]
+
+mod loading;
+mod running;
+mod status;
+#[cfg(test)]
+mod tests;
+mod words;
+
+pub use running::run;
+pub use status::Status;

@@ -1,0 +1,153 @@
+//! The top call of `vata`.
+
+ghost use Rattle.std.specs.Prelude.{◌≡◌, ◌≢◌, ◌≤◌, ◌⊎◌, ◌↔◌, List, ℕ, None, Some, map, IfOk, IfSome, IsErrOf, string_bytes, [], ◌∷◌};
+ghost use Rattle.std.specs.Io.KnownBytes.{Appends};
+ghost use Rattle.vata_outside.specs.Outside.{File, IsMissing, Rose};
+ghost use Rattle.tree_definitions.specs.Automaton.{Automaton};
+ghost use Rattle.tree_definitions.specs.Canonical.{canon};
+ghost use Rattle.timbuk_text.specs.Text.{plain_text};
+ghost use Rattle.vata_core.specs.Request.{Request, files_of, request_of};
+ghost use Rattle.vata_core.specs.Files.{AreSpelled, IsRefused, IsSpelled, IsTooLong, SpellsNone, Told};
+ghost use Rattle.vata_core.specs.Lines.{Tells, bytes_line, memory_line, read_line, syntax_line, usage_line, write_line};
+ghost use Rattle.vata_core.specs.Outcome.{Answers, AnswersInPart, FailsToRead, IsAnswered, IsSilent};
+ghost use Rattle.vata_core.specs.Refusals.{refusal_line, refusal_status};
+
+use crate::loading::{Refusal, automaton_of};
+use crate::status::Status;
+use crate::words::file_to_load;
+use std::alloc::Global;
+use vata_outside::{Files, Sink, write_all_of};
+
+/// The text to print for a file's automaton.
+fn text_to_load<F: Files>(alloc: Global, name: &str, files: &mut F) -> Result<Vec<u8>, Refusal>
+    ensures ok { IfOk result (λ text. (a : Automaton) × IsSpelled (F.files files.old) name.now a × (text.items ≡ plain_text (canon a))) }
+    ensures syntax { IsErrOf result Refusal.Syntax → Told (F.files files.old) name.now SpellsNone }
+    ensures limit { IsErrOf result Refusal.TooLong → Told (F.files files.old) name.now IsTooLong }
+    ensures later { F.faults files.old ≤ F.faults files.new }
+    ensures fault { IsErrOf result Refusal.ReadFault →
+        Rose (F.faults files.old) (F.faults files.new) ⊎ IsMissing (F.files files.old) name.now }
+{
+    let a = automaton_of(alloc, files, name)?;
+    match timbuk_text::print(&a) {
+        Ok(text) => Ok(text),
+        Err(_) => Err(Refusal::Memory),
+    }
+}
+
+#[tactic(auto, unfolding(crate::specs::Lines::usage_line))]
+fn usage() -> &'static [u8]
+    ensures { result.now ≡ usage_line }
+{
+    b"usage: not built yet\n".as_slice()
+}
+
+#[tactic(auto, unfolding(crate::specs::Lines::write_line))]
+fn write_fault() -> &'static [u8]
+    ensures { result.now ≡ write_line }
+{
+    b"write fault\n".as_slice()
+}
+
+/// Writes a line, as far as it goes.
+fn tell<E: Sink>(diag: &mut E, line: &[u8])
+    ensures { Tells (E.written diag.old) (E.written diag.new) (E.faults diag.old) (E.faults diag.new) line.now }
+{
+    let _ = write_all_of(diag, line);
+}
+
+/// The line for the first file.
+#[tactic(auto, unfolding(crate::specs::Lines::memory_line))]
+fn line_of(refusal: Refusal) -> &'static [u8]
+    ensures { result.now ≡ refusal_line refusal 0 }
+{
+    match refusal {
+        Refusal::ReadFault => b"read fault: file 1\n".as_slice(),
+        Refusal::TooLong => b"limit: file 1 bytes\n".as_slice(),
+        Refusal::Syntax => b"syntax: file 1\n".as_slice(),
+        Refusal::Memory => b"memory\n".as_slice(),
+    }
+}
+
+fn status_of(refusal: Refusal) -> Status
+    ensures { result ≡ refusal_status refusal }
+{
+    match refusal {
+        Refusal::ReadFault => Status::ReadFault,
+        Refusal::TooLong => Status::Limit,
+        Refusal::Syntax => Status::Syntax,
+        Refusal::Memory => Status::Memory,
+    }
+}
+
+/// Does what the words ask for: reads the files that they name, writes the answer to `out`, and
+/// where there is none a line to `diag`. The answer is made before the first byte is written.
+pub fn run<F: Files, K: Sink, E: Sink>(
+    alloc: Global,
+    words: &[String],
+    files: &mut F,
+    out: &mut K,
+    diag: &mut E,
+) -> Status
+    // What is written is the whole of a right answer's text,
+    ensures answered { IsAnswered result → IfSome (request_of (map string_bytes words.now))
+        (Answers (F.files files.old) (K.written out.old) (K.written out.new) result) }
+
+    // or after a fault of writing a prefix of it, and with every other status nothing.
+    ensures cut { result ≡ Status.WriteFault → IfSome (request_of (map string_bytes words.now))
+        (AnswersInPart (F.files files.old) (K.written out.old) (K.written out.new)) }
+    ensures silent { IsSilent result → Appends (K.written out.old) (K.written out.new) [] }
+
+    // Each other status has its cause, which is told.
+    ensures usage { (result ≡ Status.Usage) ↔ (request_of (map string_bytes words.now) ≡ None) }
+    ensures syntax { result ≡ Status.Syntax → IfSome (request_of (map string_bytes words.now)) (λ request.
+        (place : ℕ) × IsRefused (F.files files.old) (files_of request) SpellsNone place
+        × Tells (E.written diag.old) (E.written diag.new) (E.faults diag.old) (E.faults diag.new) (syntax_line place)) }
+    ensures limit { result ≡ Status.Limit → IfSome (request_of (map string_bytes words.now)) (λ request.
+        (place : ℕ) × IsRefused (F.files files.old) (files_of request) IsTooLong place
+        × Tells (E.written diag.old) (E.written diag.new) (E.faults diag.old) (E.faults diag.new) (bytes_line place)) }
+    ensures read { result ≡ Status.ReadFault → IfSome (request_of (map string_bytes words.now)) (λ request.
+        (place : ℕ) × FailsToRead (F.files files.old) (files_of request) (F.faults files.old) (F.faults files.new) place
+        × Tells (E.written diag.old) (E.written diag.new) (E.faults diag.old) (E.faults diag.new) (read_line place)) }
+    ensures write { result ≡ Status.WriteFault → Rose (K.faults out.old) (K.faults out.new) }
+
+    ensures usage_told { result ≡ Status.Usage →
+        Tells (E.written diag.old) (E.written diag.new) (E.faults diag.old) (E.faults diag.new) usage_line }
+    ensures write_told { result ≡ Status.WriteFault →
+        Tells (E.written diag.old) (E.written diag.new) (E.faults diag.old) (E.faults diag.new) write_line }
+    ensures memory_told { result ≡ Status.Memory →
+        Tells (E.written diag.old) (E.written diag.new) (E.faults diag.old) (E.faults diag.new) memory_line }
+    ensures answer_told { IsAnswered result → Appends (E.written diag.old) (E.written diag.new) [] }
+
+    // A file that spells no automaton, or is too long, is refused as such, unless reading fails or memory runs out.
+    ensures syntax_due { (request : Request) (fs : List File) (place : ℕ) → request_of (map string_bytes words.now) ≡ Some request
+        → F.files files.old ≡ Some fs → IsRefused (Some fs) (files_of request) SpellsNone place
+        → ¬ Rose (F.faults files.old) (F.faults files.new) → (result ≡ Status.Syntax) ⊎ (result ≡ Status.Memory) }
+    ensures limit_due { (request : Request) (fs : List File) (place : ℕ) → request_of (map string_bytes words.now) ≡ Some request
+        → F.files files.old ≡ Some fs → IsRefused (Some fs) (files_of request) IsTooLong place
+        → ¬ Rose (F.faults files.old) (F.faults files.new) → (result ≡ Status.Limit) ⊎ (result ≡ Status.Memory) }
+
+    // Where each file spells an automaton and nothing fails, the answer is written, unless memory runs out.
+    ensures complete { (request : Request) (fs : List File) (As : List Automaton) → request_of (map string_bytes words.now) ≡ Some request
+        → F.files files.old ≡ Some fs → AreSpelled (Some fs) (files_of request) As
+        → ¬ Rose (F.faults files.old) (F.faults files.new) → ¬ Rose (K.faults out.old) (K.faults out.new)
+        → IsAnswered result ⊎ (result ≡ Status.Memory) }
+{
+    let Some(name) = file_to_load(words) else {
+        tell(diag, usage());
+        return Status::Usage;
+    };
+    let text = match text_to_load(alloc, name, files) {
+        Ok(text) => text,
+        Err(refusal) => {
+            tell(diag, line_of(refusal));
+            return status_of(refusal);
+        }
+    };
+    match write_all_of(out, &text) {
+        Ok(()) => Status::Done,
+        Err(_) => {
+            tell(diag, write_fault());
+            Status::WriteFault
+        }
+    }
+}

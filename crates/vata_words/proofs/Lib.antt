@@ -1,0 +1,4 @@
+pub mod Numbers
+pub mod Cut
+pub mod Parts
+pub mod Fits

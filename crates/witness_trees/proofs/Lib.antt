@@ -1,0 +1,12 @@
+pub mod Texts
+pub mod Rows
+pub mod Symbols
+pub mod Marks
+pub mod Reaching
+pub mod Cuts
+pub mod Lines
+pub mod Whole
+pub mod Spelled
+pub mod ReadBack
+pub mod Inverse
+pub mod OneRule

@@ -1,0 +1,22 @@
+//! Trees as numbered nodes: a symbol and the numbers of earlier nodes, so that equal subtrees are
+//! held once.
+//!
+//! - `Nodes`: a list of symbols, and nodes over them.
+//! - `reach`: for each node, the states of an automaton that its tree reaches.
+//! - `print`, `read`: the text of nodes. `laws` says that each is the other's inverse.
+#![tactic(auto)]
+
+mod laws;
+mod nodes;
+mod printer;
+mod reader;
+mod states;
+
+pub use laws::{only_printed_nodes_are_read, printed_nodes_are_read_back};
+pub use nodes::{NodeError, Nodes};
+pub use printer::print;
+pub use reader::{NodesTextError, read};
+pub use states::reach;
+
+#[cfg(test)]
+mod tests;
