@@ -1,0 +1,5 @@
+pub mod Accepting
+pub mod Joined
+pub mod Lacking
+pub mod Within
+pub mod Lines

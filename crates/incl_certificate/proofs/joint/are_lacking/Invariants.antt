@@ -1,0 +1,7 @@
+use Rattle.std.proofs.Common.{◌≡◌, ◌++◌, take}
+use Rattle.incl_certificate.specs.Joint.{lacking}
+use Rattle.incl_certificate.proofs.joint.are_lacking.Given as goal
+
+-- what the first list lacks of the second so far, and the rest
+abbrev pub invariant-loop-symbol : goal.invariant-loop-symbol
+invariant-loop-symbol l = l.symbols ≡ lacking l.first (take l.symbol-index l.second) ++ l.rest

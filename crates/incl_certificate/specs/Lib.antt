@@ -1,0 +1,5 @@
+pub mod Joint
+pub mod Trees
+pub mod Certificates
+pub mod Text
+pub mod Checked

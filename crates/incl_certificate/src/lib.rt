@@ -1,0 +1,16 @@
+//! Certificates of inclusion and of its opposite: their texts, and the conditions that they have to
+//! meet.
+#![tactic(auto)]
+
+mod certificate;
+mod checking;
+mod joint;
+mod printing;
+mod reading;
+#[cfg(test)]
+mod tests;
+
+pub use certificate::{Certificate, fits};
+pub use checking::{CheckError, Verdict, check};
+pub use printing::print;
+pub use reading::{CertError, read};
