@@ -3,3 +3,4 @@ pub mod Joined
 pub mod Lacking
 pub mod Within
 pub mod Lines
+pub mod ReadBack

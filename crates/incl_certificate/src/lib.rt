@@ -5,6 +5,7 @@
 mod certificate;
 mod checking;
 mod joint;
+mod laws;
 mod printing;
 mod reading;
 #[cfg(test)]
@@ -12,5 +13,6 @@ mod tests;
 
 pub use certificate::{Certificate, fits};
 pub use checking::{CheckError, Verdict, check};
+pub use laws::printed_certificates_are_read_back;
 pub use printing::print;
 pub use reading::{CertError, read};

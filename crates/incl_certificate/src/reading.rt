@@ -2,7 +2,7 @@
 
 ghost use Rattle.std.specs.Prelude.{◌≡◌, ◌<◌, IfOk, length};
 ghost use Rattle.incl_certificate.specs.Certificates.{Fits};
-ghost use Rattle.incl_certificate.specs.Text.{Reads, judged_certificate};
+ghost use Rattle.incl_certificate.specs.Text.{Reads, certificate_text, judged_certificate};
 
 use crate::certificate::Certificate;
 use crate::joint::joint_of;
@@ -25,6 +25,7 @@ pub enum CertError {
 pub fn read(alloc: Global, text: &[u8], a: &Listed, b: &Listed) -> Result<Certificate, CertError>
     requires { length text.now < 4294967295 }
     ensures judged { Reads a.now b.now result (judged_certificate a.now b.now text.now) }
+    ensures text { IfOk result (λ c. text.now ≡ certificate_text c) }
     ensures fits { IfOk result (Fits a.now b.now) }
 {
     let Some(rest) = text.strip_prefix(answer()) else {

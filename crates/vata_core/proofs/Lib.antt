@@ -1,3 +1,5 @@
 pub mod Taken
-pub mod FirstFile
 pub mod Answered
+pub mod Pieces
+pub mod Walk
+pub mod Reasons

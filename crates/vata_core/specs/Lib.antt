@@ -5,3 +5,6 @@ pub mod Lines
 pub mod Numbers
 pub mod Outcome
 pub mod Refusals
+pub mod CheckRequest
+pub mod Judgement
+pub mod NoCertificate

@@ -15,6 +15,13 @@ file_number place = decimal (place + 1)
 unfoldable pub syntax_line : ℕ → List ℕ
 syntax_line place = codes "syntax: file " ++ file_number place ++ codes "\n"
 
+-- the third file is the certificate
+unfoldable pub bad_text_line : ℕ → List ℕ
+bad_text_line at = codes "syntax: file 3 at " ++ decimal at ++ codes "\n"
+
+unfoldable pub unknown_name_line : ℕ → List ℕ
+unknown_name_line at = codes "name: file 3 at " ++ decimal at ++ codes "\n"
+
 unfoldable pub bytes_line : ℕ → List ℕ
 bytes_line place = codes "limit: file " ++ file_number place ++ codes " bytes\n"
 

@@ -1,6 +1,17 @@
--- What is told of a file that gives no automaton.
-use Rattle.std.specs.Prelude.{ℕ, List}
-use Rattle.vata_core.specs.Lines.{bytes_line, memory_line, read_line, syntax_line}
+-- What is told of files that give no answer.
+use Rattle.std.specs.Prelude.{◌≡◌, ◌⊎◌, ℕ, ◌<◌, List}
+use Rattle.std.specs.declared.option.Option.{Option}
+use Rattle.vata_outside.specs.Outside.{File, IsMissing, Rose}
+use Rattle.tree_definitions.specs.Automaton.{Automaton}
+use Rattle.witness_trees.specs.Judged.{BadAt, UnknownAt}
+use Rattle.vata_core.specs.CheckRequest.{CheckRequest, all_of, automata_of}
+use Rattle.vata_core.specs.Files.{IsRefused, SpellsNone, Told}
+use Rattle.vata_core.specs.Lines.{bad_text_line, bytes_line, memory_line, read_line, syntax_line, unknown_name_line}
+use Rattle.vata_core.specs.NoCertificate.{IsNoCertificate, IsReadAs, IsTooLongAt}
+use Rattle.vata_core.specs.Outcome.{FailsToRead}
+use Rattle.vata_core.specs.declared.judging.Unjudged.{Unjudged}
+use Rattle.vata_core.specs.declared.judging.Unjudged.TheVariants.{BadText, UnknownName}
+use Rattle.vata_core.specs.declared.judging.Unjudged.TheVariants as unjudged
 use Rattle.vata_core.specs.declared.loading.Refusal.{Refusal}
 use Rattle.vata_core.specs.declared.loading.Refusal.TheVariants as refusal
 use Rattle.vata_core.specs.declared.status.Status.{Status}
@@ -18,3 +29,43 @@ refusal_status refusal.ReadFault = status.ReadFault
 refusal_status refusal.TooLong = status.Limit
 refusal_status refusal.Syntax = status.Syntax
 refusal_status refusal.Memory = status.Memory
+
+abbrev pub reason_line : Unjudged → List ℕ
+reason_line (unjudged.File place r) = refusal_line r place
+reason_line (BadText at) = bad_text_line at
+reason_line (UnknownName at) = unknown_name_line at
+
+abbrev pub reason_status : Unjudged → Status
+reason_status (unjudged.File place r) = refusal_status r
+reason_status (BadText at) = status.Syntax
+reason_status (UnknownName at) = status.Syntax
+
+-- why the file of that name, which is at a place, gives nothing. The first two hold automata
+abbrev pub IsReason : Option (List File) → List ℕ → (before now : ℕ) → ℕ → Refusal → Type 0
+IsReason files name before now place refusal.ReadFault = Rose before now ⊎ IsMissing files name
+IsReason files name before now place refusal.TooLong = Told files name (IsTooLongAt place)
+IsReason files name before now place refusal.Syntax = (place < 2) × Told files name SpellsNone
+IsReason files name before now place refusal.Memory = Unit {0}
+
+abbrev pub IsFileRefused : Option (List File) → List ℕ → (before now : ℕ) → ℕ → Unjudged → Type 0
+IsFileRefused files name before now place (unjudged.File at r) = (at ≡ place) × IsReason files name before now place r
+IsFileRefused files name before now place (BadText at) = ⊥
+IsFileRefused files name before now place (UnknownName at) = ⊥
+
+-- why a text is not judged
+abbrev pub IsUnread : Automaton → Automaton → List ℕ → Unjudged → Type 0
+IsUnread A B text (unjudged.File place r) = r ≡ refusal.Memory
+IsUnread A B text (BadText at) = IsReadAs A B (BadAt at) text
+IsUnread A B text (UnknownName at) = IsReadAs A B (UnknownAt at) text
+
+-- why the files of a request to the checker are not judged
+abbrev pub IsStopped : Option (List File) → CheckRequest → (before now : ℕ) → ℕ → Refusal → Type 0
+IsStopped files request before now place refusal.ReadFault = FailsToRead files (all_of request) before now place
+IsStopped files request before now place refusal.TooLong = IsRefused files (all_of request) (IsTooLongAt place) place
+IsStopped files request before now place refusal.Syntax = IsRefused files (automata_of request) SpellsNone place
+IsStopped files request before now place refusal.Memory = Unit {0}
+
+abbrev pub IsUnjudged : Option (List File) → CheckRequest → (before now : ℕ) → Unjudged → Type 0
+IsUnjudged files request before now (unjudged.File place r) = IsStopped files request before now place r
+IsUnjudged files request before now (BadText at) = IsNoCertificate files request (BadAt at)
+IsUnjudged files request before now (UnknownName at) = IsNoCertificate files request (UnknownAt at)

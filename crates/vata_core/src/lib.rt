@@ -2,12 +2,16 @@
 //! written and the status.
 #![tactic(auto)]
 
+mod checking;
+mod judging;
 mod loading;
 mod running;
 mod status;
+mod telling;
 #[cfg(test)]
 mod tests;
 mod words;
 
+pub use checking::check_run;
 pub use running::run;
 pub use status::Status;

@@ -1,9 +1,10 @@
 //! Reading one file.
 
-ghost use Rattle.std.specs.Prelude.{◌≡◌, ◌⊎◌, ◌<◌, ◌≤◌, false, length, vec_len, IfOk, IfSome, IsErrOf};
-ghost use Rattle.std.specs.Io.KnownBytes.{ReadConsumes};
+ghost use Rattle.std.specs.Prelude.{◌≡◌, ◌⊎◌, ◌<◌, ◌≤◌, ◌+◌, false, length, take, vec_len, IfOk, IfSome, IsErrOf};
+ghost use Rattle.std.specs.Io.KnownBytes.{Consumes, IsAtEnd, ReadConsumes};
 ghost use Rattle.vata_outside.specs.Outside.{HasCause, IsMissing, Rose};
 ghost use Rattle.vata_core.specs.Files.{IsSpelled, IsTooLong, SpellsNone, Told};
+ghost use Rattle.vata_core.specs.NoCertificate.{IsTooLongAt};
 
 use std::alloc::{AllocError, Global};
 use ta_model::Listed;
@@ -12,6 +13,9 @@ use vata_outside::{Failed, Files};
 
 /// The most bytes of an automaton's file.
 const MOST_BYTES: usize = 33_554_432;
+
+/// The most bytes of a certificate's file.
+const MOST_CERTIFICATE_BYTES: usize = 134_217_728;
 
 /// How many bytes are read at once.
 const BUFFER: usize = 65_536;
@@ -43,7 +47,38 @@ fn piece_of<F: Files>(files: &mut F, buffer: &mut [u8], room: usize) -> Result<u
     files.read(&mut buffer[..room])
 }
 
-/// All that is left of the selected file.
+/// Reads the next piece of a file that may have `most` bytes, of which `total` were read. 0 bytes come
+/// exactly at its end.
+fn next_piece<F: Files>(
+    files: &mut F,
+    buffer: &mut [u8],
+    total: usize,
+    most: usize,
+) -> Result<usize, Refusal>
+    requires buffer { length buffer.old ≡ 65536 }
+    requires most { most < 4294967295 }
+    requires total { total ≤ most }
+    ensures same { F.files files.new ≡ F.files files.old }
+    ensures later { F.faults files.old ≤ F.faults files.new }
+    ensures size { length buffer.new ≡ 65536 }
+    ensures few { IfOk result (λ n. (n ≤ 65536) × (total + n ≤ most)) }
+    ensures taken { IfOk result (λ n. Consumes (F.left files.old) (F.left files.new) (take n buffer.new)) }
+    ensures end { IfOk result (λ n. n ≡ 0 → IsAtEnd (F.left files.new)) }
+    ensures long { IsErrOf result Refusal.TooLong → IfSome (F.left files.old) (λ bytes. most < total + length bytes) }
+    ensures fault { IsErrOf result Refusal.ReadFault → Rose (F.faults files.old) (F.faults files.new) }
+    ensures no_syntax { IsErrOf result Refusal.Syntax → ⊥ }
+{
+    let room = BUFFER.min(most + 1 - total);
+    let Ok(count) = piece_of(files, buffer, room) else {
+        return Err(Refusal::ReadFault);
+    };
+    if count > most - total {
+        return Err(Refusal::TooLong);
+    }
+    Ok(count)
+}
+
+/// All that is left of the selected file, which holds an automaton.
 fn rest_of<F: Files>(alloc: Global, files: &mut F) -> Result<Reader, Refusal>
     ensures same { F.files files.new ≡ F.files files.old }
     ensures fresh { IfOk result (λ r. r.failed ≡ false) }
@@ -60,15 +95,9 @@ fn rest_of<F: Files>(alloc: Global, files: &mut F) -> Result<Reader, Refusal>
     };
     let mut total: usize = 0;
     loop {
-        let room = BUFFER.min(MOST_BYTES + 1 - total);
-        let Ok(count) = piece_of(files, &mut buffer, room) else {
-            return Err(Refusal::ReadFault);
-        };
+        let count = next_piece(files, &mut buffer, total, MOST_BYTES)?;
         if count == 0 {
             return Ok(reader);
-        }
-        if count > MOST_BYTES - total {
-            return Err(Refusal::TooLong);
         }
         let (piece, _) = buffer.split_at(count);
         let Ok(()) = reader.feed(piece) else {
@@ -78,9 +107,56 @@ fn rest_of<F: Files>(alloc: Global, files: &mut F) -> Result<Reader, Refusal>
     }
 }
 
+/// All that is left of the selected file, which holds a certificate.
+fn bytes_left<F: Files>(alloc: Global, files: &mut F) -> Result<Vec<u8>, Refusal>
+    ensures same { F.files files.new ≡ F.files files.old }
+    ensures short { IfOk result (λ v. length v.items ≤ 134217728) }
+    ensures text { IfOk result (λ v. IfSome (F.left files.old) (λ bytes. v.items ≡ bytes)) }
+    ensures limit { IsErrOf result Refusal.TooLong → IfSome (F.left files.old) (IsTooLongAt 2) }
+    ensures later { F.faults files.old ≤ F.faults files.new }
+    ensures fault { IsErrOf result Refusal.ReadFault → Rose (F.faults files.old) (F.faults files.new) }
+    ensures no_syntax { IsErrOf result Refusal.Syntax → ⊥ }
+{
+    let mut text = Vec::new(alloc);
+    let Ok(mut buffer) = zeros(alloc, BUFFER) else {
+        return Err(Refusal::Memory);
+    };
+    loop {
+        let count = next_piece(files, &mut buffer, text.len(), MOST_CERTIFICATE_BYTES)?;
+        if count == 0 {
+            return Ok(text);
+        }
+        let (piece, _) = buffer.split_at(count);
+        let Ok(()) = text.extend_from_slice(piece) else {
+            return Err(Refusal::Memory);
+        };
+    }
+}
+
+/// The bytes of a certificate's file.
+pub fn certificate_text_of<F: Files>(
+    alloc: Global,
+    files: &mut F,
+    name: &str,
+) -> Result<Vec<u8>, Refusal>
+    ensures ok { IfOk result (λ v. Told (F.files files.old) name.now (λ bytes. v.items ≡ bytes)) }
+    ensures short { IfOk result (λ v. length v.items ≤ 134217728) }
+    ensures limit { IsErrOf result Refusal.TooLong → Told (F.files files.old) name.now (IsTooLongAt 2) }
+    ensures later { F.faults files.old ≤ F.faults files.new }
+    ensures fault { IsErrOf result Refusal.ReadFault →
+        Rose (F.faults files.old) (F.faults files.new) ⊎ IsMissing (F.files files.old) name.now }
+    ensures no_syntax { IsErrOf result Refusal.Syntax → ⊥ }
+{
+    if files.select(name).is_err() {
+        return Err(Refusal::ReadFault);
+    }
+    bytes_left(alloc, files)
+}
+
 /// The automaton of a file.
 pub fn automaton_of<F: Files>(alloc: Global, files: &mut F, name: &str) -> Result<Listed, Refusal>
     ensures ok { IfOk result (λ a. IsSpelled (F.files files.old) name.now a) }
+    ensures same { F.files files.new ≡ F.files files.old }
     ensures syntax { IsErrOf result Refusal.Syntax → Told (F.files files.old) name.now SpellsNone }
     ensures limit { IsErrOf result Refusal.TooLong → Told (F.files files.old) name.now IsTooLong }
     ensures later { F.faults files.old ≤ F.faults files.new }

@@ -10,10 +10,11 @@ ghost use Rattle.vata_core.specs.Request.{Request, files_of, request_of};
 ghost use Rattle.vata_core.specs.Files.{AreSpelled, IsRefused, IsSpelled, IsTooLong, SpellsNone, Told};
 ghost use Rattle.vata_core.specs.Lines.{Tells, bytes_line, memory_line, read_line, syntax_line, usage_line, write_line};
 ghost use Rattle.vata_core.specs.Outcome.{Answers, AnswersInPart, FailsToRead, IsAnswered, IsSilent};
-ghost use Rattle.vata_core.specs.Refusals.{refusal_line, refusal_status};
+ghost use Rattle.vata_core.specs.Refusals.{refusal_status};
 
 use crate::loading::{Refusal, automaton_of};
 use crate::status::Status;
+use crate::telling::{tell_refusal, tell_usage, tell_write_fault};
 use crate::words::file_to_load;
 use std::alloc::Global;
 use vata_outside::{Files, Sink, write_all_of};
@@ -34,41 +35,7 @@ fn text_to_load<F: Files>(alloc: Global, name: &str, files: &mut F) -> Result<Ve
     }
 }
 
-#[tactic(auto, unfolding(crate::specs::Lines::usage_line))]
-fn usage() -> &'static [u8]
-    ensures { result.now ≡ usage_line }
-{
-    b"usage: not built yet\n".as_slice()
-}
-
-#[tactic(auto, unfolding(crate::specs::Lines::write_line))]
-fn write_fault() -> &'static [u8]
-    ensures { result.now ≡ write_line }
-{
-    b"write fault\n".as_slice()
-}
-
-/// Writes a line, as far as it goes.
-fn tell<E: Sink>(diag: &mut E, line: &[u8])
-    ensures { Tells (E.written diag.old) (E.written diag.new) (E.faults diag.old) (E.faults diag.new) line.now }
-{
-    let _ = write_all_of(diag, line);
-}
-
-/// The line for the first file.
-#[tactic(auto, unfolding(crate::specs::Lines::memory_line))]
-fn line_of(refusal: Refusal) -> &'static [u8]
-    ensures { result.now ≡ refusal_line refusal 0 }
-{
-    match refusal {
-        Refusal::ReadFault => b"read fault: file 1\n".as_slice(),
-        Refusal::TooLong => b"limit: file 1 bytes\n".as_slice(),
-        Refusal::Syntax => b"syntax: file 1\n".as_slice(),
-        Refusal::Memory => b"memory\n".as_slice(),
-    }
-}
-
-fn status_of(refusal: Refusal) -> Status
+pub fn status_of(refusal: Refusal) -> Status
     ensures { result ≡ refusal_status refusal }
 {
     match refusal {
@@ -133,20 +100,20 @@ pub fn run<F: Files, K: Sink, E: Sink>(
         → IsAnswered result ⊎ (result ≡ Status.Memory) }
 {
     let Some(name) = file_to_load(words) else {
-        tell(diag, usage());
+        tell_usage(diag);
         return Status::Usage;
     };
     let text = match text_to_load(alloc, name, files) {
         Ok(text) => text,
         Err(refusal) => {
-            tell(diag, line_of(refusal));
+            tell_refusal(diag, 0, refusal);
             return status_of(refusal);
         }
     };
     match write_all_of(out, &text) {
         Ok(()) => Status::Done,
         Err(_) => {
-            tell(diag, write_fault());
+            tell_write_fault(diag);
             Status::WriteFault
         }
     }

@@ -2,7 +2,7 @@
 
 ghost use Rattle.std.specs.Prelude.{◌<◌};
 
-use crate::{Status, run};
+use crate::{Status, check_run, run};
 use std::alloc::{AllocError, Global};
 use vata_outside::{MemFiles, MemSink};
 
@@ -39,6 +39,81 @@ fn run_over(
     let mut diag = MemSink::new(alloc, 1_000, 1_000, Vec::new(alloc))?;
     let status = run(alloc, &given, &mut files, &mut out, &mut diag);
     Ok(Ran { status, out, diag })
+}
+
+const ONLY: &[u8] = b"Ops a:0\nAutomaton only\nStates r\nFinal States r\nTransitions\na -> r\n";
+
+const EMPTY: &[u8] = b"Ops\nAutomaton e\nStates\nFinal States\nTransitions\n";
+
+/// The tree f(a,a), whose child is shared.
+const SHARED: &[u8] = b"not included\ncertificate 1 tree\nnodes 2\n1 a\n2 f(1,1)\n";
+
+/// Checks a certificate, in the file `c`, against the automata of the files `a` and `b`. The calls of the
+/// files and of the sink `out` with the given numbers fail.
+fn check_over(
+    alloc: Global,
+    words: &str,
+    a: &[u8],
+    b: &[u8],
+    certificate: &[u8],
+    reads: Vec<u64>,
+    writes: Vec<u64>,
+) -> Result<Ran, AllocError> {
+    let mut given = Vec::new(alloc);
+    for word in words.split_whitespace() {
+        given.push(String::from_str(alloc, word)?)?;
+    }
+    let mut files = MemFiles::new(alloc, 1_000, reads);
+    files.add("a", a)?;
+    files.add("b", b)?;
+    files.add("c", certificate)?;
+    let mut out = MemSink::new(alloc, 1_000, 7, writes)?;
+    let mut diag = MemSink::new(alloc, 1_000, 1_000, Vec::new(alloc))?;
+    let status = check_run(alloc, &given, &mut files, &mut out, &mut diag);
+    Ok(Ran { status, out, diag })
+}
+
+/// The height of a tree whose shared nodes are few.
+const HEIGHT: u32 = 40;
+
+/// The automaton that accepts the full binary tree of that height alone.
+fn full_tree(alloc: Global) -> Result<String, AllocError> {
+    let mut text = String::from_str(alloc, "Ops a:0 f:2\nAutomaton full\nStates")?;
+    for i in 0..HEIGHT + 1 {
+        text.push_str(" s")?;
+        text.push_str(&i.to_string(alloc)?)?;
+    }
+    text.push_str("\nFinal States s")?;
+    text.push_str(&HEIGHT.to_string(alloc)?)?;
+    text.push_str("\nTransitions\na -> s0\n")?;
+    for i in 0..HEIGHT {
+        let kid = i.to_string(alloc)?;
+        text.push_str("f(s")?;
+        text.push_str(&kid)?;
+        text.push_str(",s")?;
+        text.push_str(&kid)?;
+        text.push_str(") -> s")?;
+        text.push_str(&(i + 1).to_string(alloc)?)?;
+        text.push_str("\n")?;
+    }
+    Ok(text)
+}
+
+/// The certificate of the full binary tree of that height, each node twice the child of the next.
+fn shared_tree(alloc: Global) -> Result<String, AllocError> {
+    let mut text = String::from_str(alloc, "not included\ncertificate 1 tree\nnodes ")?;
+    text.push_str(&(HEIGHT + 1).to_string(alloc)?)?;
+    text.push_str("\n1 a\n")?;
+    for k in 1..HEIGHT + 1 {
+        let kid = k.to_string(alloc)?;
+        text.push_str(&(k + 1).to_string(alloc)?)?;
+        text.push_str(" f(")?;
+        text.push_str(&kid)?;
+        text.push_str(",")?;
+        text.push_str(&kid)?;
+        text.push_str(")\n")?;
+    }
+    Ok(text)
 }
 
 fn spaces(alloc: Global, count: usize) -> Result<Vec<u8>, AllocError> {
@@ -203,5 +278,187 @@ fn a_file_too_long(rt: HostRuntime) -> Result<(), AllocError> {
     )?;
     assert_eq!(rt; ran.status, Status::Limit);
     assert_eq!(rt; ran.diag.bytes(), b"limit: file 1 bytes\n".as_slice());
+    Ok(())
+}
+
+#[test]
+fn certificates_are_judged(rt: HostRuntime) -> Result<(), AllocError> {
+    let alloc = rt.alloc();
+    for (name, a, b, certificate, status, out, diag) in [
+        (
+            "a tree of the first alone",
+            ALL,
+            ONLY,
+            SHARED,
+            0,
+            b"accepted: not included\n".as_slice(),
+            b"".as_slice(),
+        ),
+        (
+            "a tree of the second alone",
+            ONLY,
+            ALL,
+            SHARED,
+            1,
+            b"refused: condition 6 place 2\n".as_slice(),
+            b"".as_slice(),
+        ),
+        (
+            "a tree of both",
+            ALL,
+            ALL,
+            SHARED,
+            1,
+            b"refused: condition 7 place 2\n".as_slice(),
+            b"".as_slice(),
+        ),
+        (
+            "a later child",
+            ONLY,
+            ALL,
+            b"not included\ncertificate 1 tree\nnodes 2\n1 f(2,2)\n2 a\n".as_slice(),
+            4,
+            b"".as_slice(),
+            b"syntax: file 3 at 40\n".as_slice(),
+        ),
+        (
+            "an unknown symbol",
+            ONLY,
+            ALL,
+            b"not included\ncertificate 1 tree\nnodes 1\n1 g\n".as_slice(),
+            4,
+            b"".as_slice(),
+            b"name: file 3 at 42\n".as_slice(),
+        ),
+        (
+            "no certificate",
+            ONLY,
+            ALL,
+            b"".as_slice(),
+            4,
+            b"".as_slice(),
+            b"syntax: file 3 at 0\n".as_slice(),
+        ),
+        (
+            "no second automaton",
+            ONLY,
+            b"".as_slice(),
+            b"".as_slice(),
+            4,
+            b"".as_slice(),
+            b"syntax: file 2\n".as_slice(),
+        ),
+        (
+            "no first automaton",
+            b"".as_slice(),
+            b"".as_slice(),
+            b"".as_slice(),
+            4,
+            b"".as_slice(),
+            b"syntax: file 1\n".as_slice(),
+        ),
+    ] {
+        let ran = check_over(
+            alloc,
+            "a b c",
+            a,
+            b,
+            certificate,
+            Vec::new(alloc),
+            Vec::new(alloc),
+        )?;
+        assert_eq!(rt; ran.status.number(), status, "{name}");
+        assert_eq!(rt; ran.out.bytes(), out, "{name}");
+        assert_eq!(rt; ran.diag.bytes(), diag, "{name}");
+    }
+    Ok(())
+}
+
+#[test]
+fn shared_nodes_stand_for_a_large_tree(rt: HostRuntime) -> Result<(), AllocError> {
+    let alloc = rt.alloc();
+    let a = full_tree(alloc)?;
+    let certificate = shared_tree(alloc)?;
+    let ran = check_over(
+        alloc,
+        "a b c",
+        a.as_bytes(),
+        EMPTY,
+        certificate.as_bytes(),
+        Vec::new(alloc),
+        Vec::new(alloc),
+    )?;
+    assert_eq!(rt; ran.status, Status::Done);
+    assert_eq!(rt; ran.out.bytes(), b"accepted: not included\n".as_slice());
+    Ok(())
+}
+
+#[test]
+fn faults_of_a_check_are_told(rt: HostRuntime) -> Result<(), AllocError> {
+    let alloc = rt.alloc();
+    for (words, read, write, status, out, diag) in [
+        (
+            "a b",
+            0,
+            0,
+            2,
+            b"".as_slice(),
+            b"usage: not built yet\n".as_slice(),
+        ),
+        (
+            "a -b c",
+            0,
+            0,
+            2,
+            b"".as_slice(),
+            b"usage: not built yet\n".as_slice(),
+        ),
+        (
+            "a b d",
+            0,
+            0,
+            6,
+            b"".as_slice(),
+            b"read fault: file 3\n".as_slice(),
+        ),
+        // The fifth call reads the second file, the eighth the third.
+        (
+            "a b c",
+            5,
+            0,
+            6,
+            b"".as_slice(),
+            b"read fault: file 2\n".as_slice(),
+        ),
+        (
+            "a b c",
+            8,
+            0,
+            6,
+            b"".as_slice(),
+            b"read fault: file 3\n".as_slice(),
+        ),
+        (
+            "a b c",
+            0,
+            2,
+            7,
+            b"accepte".as_slice(),
+            b"write fault\n".as_slice(),
+        ),
+    ] {
+        let ran = check_over(
+            alloc,
+            words,
+            ALL,
+            ONLY,
+            SHARED,
+            vec![in alloc; read]?,
+            vec![in alloc; write]?,
+        )?;
+        assert_eq!(rt; ran.status.number(), status, "{words}");
+        assert_eq!(rt; ran.out.bytes(), out, "{words}");
+        assert_eq!(rt; ran.diag.bytes(), diag, "{words}");
+    }
     Ok(())
 }

@@ -96,7 +96,8 @@ impl Nodes {
     /// These symbols and nodes.
     pub(crate) fn of_parts(symbols: Vec<Symbol>, nodes: Vec<Node>) -> Nodes
         requires { IsNodeList (record { symbols = symbols.items; rows = nodes.items }) }
-        ensures { result ≡ record { symbols = symbols.items; rows = nodes.items } }
+        ensures value { result ≡ record { symbols = symbols.items; rows = nodes.items } }
+        ensures list { IsNodeList result }
     {
         Nodes { symbols, nodes }
     }

@@ -7,6 +7,7 @@ ghost use Rattle.tree_definitions.specs.Name.{is_name};
 ghost use Rattle.tree_definitions.specs.Witness.{AreNodes};
 ghost use Rattle.witness_trees.specs.Judged.{call_in, count_in, is_digit, is_in_order, is_number, judged, kids_in, lines_in, node_in, number_of, numbers_in, pieces_at, place_in, written_in};
 ghost use Rattle.witness_trees.specs.Answers.{Answers, IsCut, Spells, capped, capped_call, capped_line};
+ghost use Rattle.witness_trees.specs.Nodes.{IsNodeList};
 ghost use Rattle.witness_trees.specs.NodesText.{nodes_text};
 ghost use Rattle.witness_trees.specs.Views.{line_view};
 
@@ -334,6 +335,7 @@ pub fn read(alloc: Global, text: &[u8], symbols: &[Symbol]) -> Result<Nodes, Nod
     ensures judged { Answers (λ nodes. nodes.rows) result (judged symbols.now text.now) }
     ensures symbols { IfOk result (λ nodes. nodes.symbols ≡ symbols.now) }
     ensures text { IfOk result (λ nodes. text.now ≡ nodes_text nodes) }
+    ensures list { IfOk result IsNodeList }
     ensures some { IfOk result (λ nodes. 0 < length nodes.rows) }
 {
     let Some(end) = mark_place(text, b'\n') else {

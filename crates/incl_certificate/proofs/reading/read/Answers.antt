@@ -5,6 +5,10 @@ use Rattle.witness_trees.specs.Judged.{BadAt, UnknownAt, Is, judged}
 use Rattle.incl_certificate.proofs.Joined.{joint_distinct, joint_few}
 use Rattle.incl_certificate.proofs.Lines.{no_answer, no_kind, behind, bad_behind, unknown_behind, is_behind}
 use Rattle.incl_certificate.proofs.Within.{IsWithin, judged_within}
+use Rattle.std.specs.Prelude.{◌++◌}
+use Rattle.witness_trees.specs.NodesText.{nodes_text}
+use Rattle.incl_certificate.specs.Text.{answer_line, kind_line}
+use Rattle.incl_certificate.proofs.ReadBack.{split_text}
 use Rattle.incl_certificate.proofs.reading.read.Goals as goal
 
 pub returns-in_default-clause-judged : goal.returns-in_default-clause-judged
@@ -63,3 +67,9 @@ overflow_add-result-in-Err-UnknownName c =
     let end : c.in-Err-UnknownName.at ≤ length c.in-Some-strip_prefix.lines.now =
     subst (IsWithin (length c.in-Some-strip_prefix.lines.now)) (rw c.in-Err-UnknownName.field-0-is at c.in-Err-UnknownName.ensures.judged) (judged_within c.deref.result.now c.in-Some-strip_prefix.lines.now) in
     omega (arith, c.in-Some.ensures.cases.2, c.in-Some-strip_prefix.ensures.cases.2)
+
+pub returns-in-Ok-read-clause-text : goal.returns-in-Ok-read-clause-text
+returns-in-Ok-read-clause-text c =
+    split_text c.args.text.now c.in-Some.rest.now c.in-Some-strip_prefix.lines.now c.answer.result.now c.kind.result.now
+    c.answer.ensures c.in-Some.ensures.cases.0 c.in-Some.ensures.cases.1 c.kind.ensures c.in-Some-strip_prefix.ensures.cases.0 c.in-Some-strip_prefix.ensures.cases.1
+    ∙ ap (λ x. answer_line ++ kind_line ++ x) c.in-Ok-read.ensures.text

@@ -22,13 +22,13 @@ returns-in-Err-clause-judged c =
 pub returns-clause-judged : goal.returns-clause-judged
 returns-clause-judged c =
     let along = judged_counted c.args.symbols.now c.args.text.now (take c.in-Some.end c.args.text.now) c.in-Some.end c.in-Some.ensures.1 refl c.in-Some-count_of.due c.in-Some.ensures.0 c.requires.bytes (sym c.count_of.ensures ∙ c.in-Some-count_of.is) in
-    along ∙ c.in-Ok.ensures.judged ∙ ap (λ (x : NodeList). Is x.rows) (sym c.of_parts.ensures)
+    along ∙ c.in-Ok.ensures.judged ∙ ap (λ (x : NodeList). Is x.rows) (sym c.of_parts.ensures.value)
 
 pub returns-clause-text : goal.returns-clause-text
 returns-clause-text c =
     let said = returns-clause-judged c in
     let inverse = judged_inverse c.args.symbols.now c.args.text.now c.of_parts.result.rows (omega (arith, c.requires.bytes)) said in
-    let held : c.of_parts.result.symbols ≡ c.args.symbols.now = ap (λ (x : NodeList). x.symbols) c.of_parts.ensures ∙ c.in-Ok-from_clones.ensures.items_if_clones_equal (λ x y same. same) in
+    let held : c.of_parts.result.symbols ≡ c.args.symbols.now = ap (λ (x : NodeList). x.symbols) c.of_parts.ensures.value ∙ c.in-Ok-from_clones.ensures.items_if_clones_equal (λ x y same. same) in
     let whole : record { symbols = c.args.symbols.now; rows = c.of_parts.result.rows } ≡ c.of_parts.result = λ i. record { symbols = sym held i; rows = c.of_parts.result.rows } in
     inverse.2 ∙ ap nodes_text whole
 

@@ -1,0 +1,163 @@
+-- The files of the checker are read in order, and the first that gives nothing ends the walk. Where the
+-- files are told, two ways to end exclude each other.
+use Rattle.std.proofs.Common.{◌≡◌, ℕ, zero, suc, ◌<◌, ◌≤◌, List, [], ◌∷◌, length, Some, None, refl, sym, ap, ◌∙◌, subst, arith}
+use Rattle.std.specs.Prelude.{take, slice_get, unwrap_or}
+use Rattle.std.specs.declared.option.Option.{Option}
+use Rattle.vata_outside.specs.Outside.{File, IsMissing, bytes_of}
+use Rattle.tree_definitions.specs.Automaton.{Automaton}
+use Rattle.tree_definitions.specs.Witness.{NodeRow}
+use Rattle.ta_model.specs.Listing.{IsListed}
+use Rattle.witness_trees.specs.Judged.{Verdict, Is, BadAt, UnknownAt}
+use Rattle.timbuk_text.specs.Plain.{IsPlainTextOf}
+use Rattle.timbuk_text.proofs.Back.{automaton_back, same_read}
+use Rattle.incl_certificate.specs.Text.{judged_certificate, certificate_text}
+use Rattle.incl_certificate.specs.declared.certificate.Certificate.{Certificate}
+use Rattle.incl_certificate.specs.declared.certificate.Certificate.TheVariants.{Tree}
+use Rattle.incl_certificate.proofs.ReadBack.{printed_back}
+use Rattle.vata_core.specs.CheckRequest.{CheckRequest, all_of, automata_of}
+use Rattle.vata_core.specs.Files.{AreSpelled, ComesTo, IsRefused, IsSpelled, Spells, SpellsNone, Told}
+use Rattle.vata_core.specs.Judgement.{IsCertificateOf}
+use Rattle.vata_core.specs.NoCertificate.{IsNoCertificate, IsReadAs, IsTooLongAt, most_bytes}
+
+-- a text spells one automaton
+pub one_automaton : (bytes : List ℕ) (A B : Automaton) → Spells bytes A → Spells bytes B → A ≡ B
+one_automaton bytes A B a b = sym (same_read bytes A B a.text (automaton_back bytes B b.text))
+
+module _ (fs : List File) (r : CheckRequest) where
+  -- two facts about the bytes of one file
+  told_both : (name : List ℕ) (P Q : List ℕ → Type 0) → Told (Some fs) name P → Told (Some fs) name Q → (bytes : List ℕ) × P bytes × Q bytes
+  told_both name P Q p q = (q.0, subst P (ap (λ o. unwrap_or o []) (sym p.1 ∙ q.1)) p.2, q.2)
+
+  told_not_missing : (name : List ℕ) (P : List ℕ → Type 0) → IsMissing (Some fs) name → Told (Some fs) name P → ⊥
+  told_not_missing name P m p = cc (m, p.1)
+
+  -- the walk comes to the file at this place, of whose name P holds
+  abbrev pub Comes : ℕ → (List ℕ → Type 0) → Type 0
+  Comes zero P = P r.first
+  Comes (suc zero) P = ((A : Automaton) × IsSpelled (Some fs) r.first A) × P r.second
+  Comes (suc (suc zero)) P = ((A : Automaton) × IsSpelled (Some fs) r.first A) × ((B : Automaton) × IsSpelled (Some fs) r.second B) × P r.certificate
+  Comes (suc (suc (suc n))) P = ⊥
+
+  first_of : (names : List (List ℕ)) (As : List Automaton) (name : List ℕ) → AreSpelled (Some fs) (name ∷ names) As → (A : Automaton) × IsSpelled (Some fs) name A
+  first_of names [] name h = absurd h
+  first_of names (A ∷ As) name h = (A, h.0)
+
+  second_of : (names : List (List ℕ)) (As : List Automaton) (one name : List ℕ) → AreSpelled (Some fs) (one ∷ name ∷ names) As → (A : Automaton) × IsSpelled (Some fs) name A
+  second_of names [] one name h = absurd h
+  second_of names (A ∷ As) one name h = first_of names As name h.1
+
+  named : (P : List ℕ → Type 0) (a b : List ℕ) → Some a ≡ Some b → P b → P a
+  named P a b e = subst P (ap (λ o. unwrap_or o []) (sym e))
+
+  pub comes_to_all : (place : ℕ) (name : List ℕ) (P : List ℕ → Type 0) → ComesTo (Some fs) (all_of r) place name → P name → Comes place P
+  comes_to_all zero name P c p = named P r.first name c.stands p
+  comes_to_all (suc zero) name P c p = (first_of [] c.before.0 r.first c.before.1, named P r.second name c.stands p)
+  comes_to_all (suc (suc zero)) name P c p =
+      (first_of (r.second ∷ []) c.before.0 r.first c.before.1, second_of [] c.before.0 r.first r.second c.before.1, named P r.certificate name c.stands p)
+  comes_to_all (suc (suc (suc n))) name P c p = cc c.stands
+
+  pub comes_to_automata : (place : ℕ) (name : List ℕ) (P : List ℕ → Type 0) → ComesTo (Some fs) (automata_of r) place name → P name → Comes place (λ n. (place < 2) × P n)
+  comes_to_automata zero name P c p = (omega arith, named P r.first name c.stands p)
+  comes_to_automata (suc zero) name P c p = (first_of [] c.before.0 r.first c.before.1, (omega arith, named P r.second name c.stands p))
+  comes_to_automata (suc (suc n)) name P c p = cc c.stands
+
+  -- the ways to end, at a place and a name
+  abbrev pub Long : ℕ → List ℕ → Type 0
+  Long place name = Told (Some fs) name (IsTooLongAt place)
+
+  abbrev pub Spelless : ℕ → List ℕ → Type 0
+  Spelless place name = (place < 2) × Told (Some fs) name SpellsNone
+
+  abbrev pub Lost : ℕ → List ℕ → Type 0
+  Lost place name = IsMissing (Some fs) name
+
+  abbrev pub Whole : ℕ → List ℕ → Type 0
+  Whole place name = (place ≡ 2) × Told (Some fs) name (λ bytes. length bytes ≤ 134217728)
+
+  -- a file in which the walk ends spells no automaton
+  abbrev Ends : (ℕ → List ℕ → Type 0) → Type 0
+  Ends P = (place : ℕ) (name : List ℕ) (A : Automaton) → place < 2 → P place name → IsSpelled (Some fs) name A → ⊥
+
+  most : (place : ℕ) → place < 2 → most_bytes place ≡ 33554432
+  most zero h = refl
+  most (suc zero) h = refl
+  most (suc (suc n)) h = absurd (omega (arith, h))
+
+  long_ends : Ends Long
+  long_ends place name A h l s =
+      let both = told_both name (IsTooLongAt place) (λ bytes. Spells bytes A) l s in
+      omega (arith, most place h, both.1, both.2.short)
+
+  spelless_ends : Ends Spelless
+  spelless_ends place name A h l s =
+      let both = told_both name SpellsNone (λ bytes. Spells bytes A) l.1 s in
+      both.1.none A both.2.text
+
+  lost_ends : Ends Lost
+  lost_ends place name A h l s = told_not_missing name (λ bytes. Spells bytes A) l s
+
+  whole_ends : Ends Whole
+  whole_ends place name A h l s = absurd (omega (arith, h, l.0))
+
+  -- two walks end in the same file, so in no two ways that exclude each other
+  clash : (P Q : ℕ → List ℕ → Type 0) → ((place : ℕ) (name : List ℕ) → P place name → Q place name → ⊥) → Ends P → Ends Q
+      → (p q : ℕ) → Comes p (P p) → Comes q (Q q) → ⊥
+  clash P Q apart ep eq zero zero c d = apart 0 r.first c d
+  clash P Q apart ep eq zero (suc zero) c d = ep 0 r.first d.0.0 (omega arith) c d.0.1
+  clash P Q apart ep eq zero (suc (suc zero)) c d = ep 0 r.first d.0.0 (omega arith) c d.0.1
+  clash P Q apart ep eq zero (suc (suc (suc n))) c d = d
+  clash P Q apart ep eq (suc zero) zero c d = eq 0 r.first c.0.0 (omega arith) d c.0.1
+  clash P Q apart ep eq (suc zero) (suc zero) c d = apart 1 r.second c.1 d.1
+  clash P Q apart ep eq (suc zero) (suc (suc zero)) c d = ep 1 r.second d.1.0 (omega arith) c.1 d.1.1
+  clash P Q apart ep eq (suc zero) (suc (suc (suc n))) c d = d
+  clash P Q apart ep eq (suc (suc zero)) zero c d = eq 0 r.first c.0.0 (omega arith) d c.0.1
+  clash P Q apart ep eq (suc (suc zero)) (suc zero) c d = eq 1 r.second c.1.0 (omega arith) d.1 c.1.1
+  clash P Q apart ep eq (suc (suc zero)) (suc (suc zero)) c d = apart 2 r.certificate c.2 d.2
+  clash P Q apart ep eq (suc (suc zero)) (suc (suc (suc n))) c d = d
+  clash P Q apart ep eq (suc (suc (suc n))) q c d = c
+
+  pub long_or_spelless : (p q : ℕ) → Comes p (Long p) → Comes q (Spelless q) → ⊥
+  long_or_spelless = clash Long Spelless (λ place name l s.
+      let both = told_both name (IsTooLongAt place) SpellsNone l s.1 in
+      omega (arith, most place s.0, both.1, both.2.short)) long_ends spelless_ends
+
+  pub long_or_lost : (p q : ℕ) → Comes p (Long p) → Comes q (Lost q) → ⊥
+  long_or_lost = clash Long Lost (λ place name l m. told_not_missing name (IsTooLongAt place) m l) long_ends lost_ends
+
+  pub long_or_whole : (p q : ℕ) → Comes p (Long p) → Comes q (Whole q) → ⊥
+  long_or_whole = clash Long Whole (λ place name l w.
+      let both = told_both name (IsTooLongAt place) (λ bytes. length bytes ≤ 134217728) l w.1 in
+      omega (arith, ap most_bytes w.0, both.1, both.2)) long_ends whole_ends
+
+  pub spelless_or_lost : (p q : ℕ) → Comes p (Spelless p) → Comes q (Lost q) → ⊥
+  spelless_or_lost = clash Spelless Lost (λ place name s m. told_not_missing name SpellsNone m s.1) spelless_ends lost_ends
+
+  pub spelless_or_whole : (p q : ℕ) → Comes p (Spelless p) → Comes q (Whole q) → ⊥
+  spelless_or_whole = clash Spelless Whole (λ place name s w. absurd (omega (arith, s.0, w.0))) spelless_ends whole_ends
+
+  pub lost_or_whole : (p q : ℕ) → Comes p (Lost p) → Comes q (Whole q) → ⊥
+  lost_or_whole = clash Lost Whole (λ place name m w. told_not_missing name (λ bytes. length bytes ≤ 134217728) m w.1) lost_ends whole_ends
+
+  -- the certificate's file was read whole
+  pub read_whole : (A B : Automaton) (P : List ℕ → Type 0) → ((bytes : List ℕ) → P bytes → length bytes ≤ 134217728)
+      → AreSpelled (Some fs) (automata_of r) (A ∷ B ∷ []) → Told (Some fs) r.certificate P → Comes 2 (Whole 2)
+  read_whole A B P short s t = ((A, s.0), (B, s.1.0), (refl, (t.0, t.1, short t.0 t.2)))
+
+  -- two readings of one certificate come to the same end
+  pub same_end : (A B C D : Automaton) (P Q : Verdict (List NodeRow)) → AreSpelled (Some fs) (automata_of r) (A ∷ B ∷ []) → AreSpelled (Some fs) (automata_of r) (C ∷ D ∷ [])
+      → Told (Some fs) r.certificate (IsReadAs A B P) → Told (Some fs) r.certificate (IsReadAs C D Q) → P ≡ Q
+  same_end A B C D P Q s t p q =
+      let first = told_both r.first (λ bytes. Spells bytes A) (λ bytes. Spells bytes C) s.0 t.0 in
+      let second = told_both r.second (λ bytes. Spells bytes B) (λ bytes. Spells bytes D) s.1.0 t.1.0 in
+      let text = told_both r.certificate (IsReadAs A B P) (IsReadAs C D Q) p q in
+      sym text.1.judged
+      ∙ ap (λ x. judged_certificate x B text.0) (one_automaton first.0 A C first.1 first.2)
+      ∙ ap (λ x. judged_certificate C x text.0) (one_automaton second.0 B D second.1 second.2)
+      ∙ text.2.judged
+
+  -- the text of a certificate is read to its end
+  pub read_as : (A B : Automaton) (c : Certificate) → AreSpelled (Some fs) (automata_of r) (A ∷ B ∷ []) → Told (Some fs) r.certificate (IsCertificateOf A B c)
+      → (rows : List NodeRow) × Told (Some fs) r.certificate (IsReadAs A B (Is rows))
+  read_as A B (Tree nodes) s t =
+      let back = printed_back A B (Tree nodes) s.0.2.text.small.listed s.1.0.2.text.small.listed t.2.fits in
+      (nodes.rows, (t.0, t.1, record { short = t.2.short; judged = ap (judged_certificate A B) t.2.text ∙ back.0 }))

@@ -1,0 +1,47 @@
+use Rattle.std.proofs.Common.{◌≡◌, ◌⊎◌, ◌∙◌, List, ℕ, Some, [], ◌∷◌, IfSome, inl, inr, refl, sym, ap, subst}
+use Rattle.vata_outside.specs.Outside.{File}
+use Rattle.vata_core.specs.CheckRequest.{CheckRequest, automata_of}
+use Rattle.vata_core.specs.Files.{AreSpelled, Told}
+use Rattle.vata_core.specs.Judgement.{HasJudgement, IsCertificateOf}
+use Rattle.vata_core.specs.Lines.{Tells}
+use Rattle.vata_core.specs.NoCertificate.{IsFaulty}
+use Rattle.vata_core.specs.Refusals.{IsUnjudged, reason_line, reason_status}
+use Rattle.vata_core.specs.declared.status.Status.TheVariants as status
+use Rattle.vata_core.proofs.Reasons.{faulty, faulty_or_good, nothing_wrong, one_request, syntax_due}
+use Rattle.vata_core.proofs.checking.check_run.Goals as goal
+
+pub returns-in-Err-clause-syntax : goal.returns-in-Err-clause-syntax
+returns-in-Err-clause-syntax g c = λ e.
+    subst (λ asked. IfSome asked (λ request. (line : List ℕ) × IsFaulty (g.F.Files.files c.args.files.now) request line
+    × Tells (g.E.Sink.written c.args.diag.now) (g.E.Sink.written c.tell_reason.new.diag) (g.E.Sink.faults c.args.diag.now) (g.E.Sink.faults c.tell_reason.new.diag) line))
+    c.in-Some.ensures
+    (reason_line c.in-Err.reason, faulty _ _ _ _ c.in-Err.reason (sym c.unjudged.ensures ∙ e) c.in-Err.ensures.err, c.tell_reason.ensures)
+
+pub returns-in-Err-clause-syntax_due : goal.returns-in-Err-clause-syntax_due
+returns-in-Err-clause-syntax_due g c = λ request fs line asked told fault calm.
+    subst (λ s. (s ≡ status.Syntax) ⊎ (s ≡ status.Memory)) (sym c.unjudged.ensures)
+    (syntax_due fs request line _ _ c.in-Err.reason fault calm
+    (subst (λ files. IsUnjudged files request (g.F.Files.faults c.args.files.now) (g.F.Files.faults c.judgement_of.new.files) c.in-Err.reason) told
+    (subst (λ r. IsUnjudged (g.F.Files.files c.args.files.now) r (g.F.Files.faults c.args.files.now) (g.F.Files.faults c.judgement_of.new.files) c.in-Err.reason)
+    (one_request _ _ request c.in-Some.ensures asked) c.in-Err.ensures.err)))
+
+pub returns-in-Err-clause-complete : goal.returns-in-Err-clause-complete
+returns-in-Err-clause-complete g c = λ request fs A B d asked told spelled written calm _.
+    inr (c.unjudged.ensures ∙ nothing_wrong fs request _ _ c.in-Err.reason A B d spelled written calm
+    (subst (λ files. IsUnjudged files request (g.F.Files.faults c.args.files.now) (g.F.Files.faults c.judgement_of.new.files) c.in-Err.reason) told
+    (subst (λ r. IsUnjudged (g.F.Files.files c.args.files.now) r (g.F.Files.faults c.args.files.now) (g.F.Files.faults c.judgement_of.new.files) c.in-Err.reason)
+    (one_request _ _ request c.in-Some.ensures asked) c.in-Err.ensures.err)))
+
+pub returns-in-Ok-write_all_of-clause-syntax_due : goal.returns-in-Ok-write_all_of-clause-syntax_due
+returns-in-Ok-write_all_of-clause-syntax_due g c = λ request fs line asked told fault calm.
+    let right : HasJudgement (Some fs) request c.in-Ok.judgement =
+    subst (λ files. HasJudgement files request c.in-Ok.judgement) told
+    (subst (λ r. HasJudgement (g.F.Files.files c.args.files.now) r c.in-Ok.judgement) (one_request _ _ request c.in-Some.ensures asked) c.in-Ok.ensures.ok) in
+    absurd (faulty_or_good fs request line right.first right.second right.certificate fault right.spelled right.written)
+
+pub returns-clause-syntax_due : goal.returns-clause-syntax_due
+returns-clause-syntax_due g c = λ request fs line asked told fault calm.
+    let right : HasJudgement (Some fs) request c.in-Ok.judgement =
+    subst (λ files. HasJudgement files request c.in-Ok.judgement) told
+    (subst (λ r. HasJudgement (g.F.Files.files c.args.files.now) r c.in-Ok.judgement) (one_request _ _ request c.in-Some.ensures asked) c.in-Ok.ensures.ok) in
+    absurd (faulty_or_good fs request line right.first right.second right.certificate fault right.spelled right.written)

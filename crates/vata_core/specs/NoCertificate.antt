@@ -1,0 +1,36 @@
+-- What the files of the checker say where there is nothing to judge.
+use Rattle.std.specs.Prelude.{◌≡◌, ℕ, ◌<◌, ◌≤◌, List, [], ◌∷◌, length, ◌==◌, if◌then◌else◌}
+use Rattle.std.specs.declared.option.Option.{Option}
+use Rattle.vata_outside.specs.Outside.{File}
+use Rattle.tree_definitions.specs.Automaton.{Automaton}
+use Rattle.tree_definitions.specs.Witness.{NodeRow}
+use Rattle.witness_trees.specs.Judged.{Verdict, BadAt, UnknownAt}
+use Rattle.incl_certificate.specs.Text.{judged_certificate}
+use Rattle.vata_core.specs.CheckRequest.{CheckRequest, all_of, automata_of}
+use Rattle.vata_core.specs.Files.{AreSpelled, IsRefused, SpellsNone, Told}
+use Rattle.vata_core.specs.Lines.{bad_text_line, syntax_line, unknown_name_line}
+
+-- the most bytes that the file at a place may have: 128 mebibytes for the certificate, 32 for an automaton
+abbrev pub most_bytes : ℕ → ℕ
+most_bytes place = if place == 2 then 134217728 else 33554432
+
+abbrev pub IsTooLongAt : ℕ → List ℕ → Type 0
+IsTooLongAt place bytes = most_bytes place < length bytes
+
+-- reading the text for A and B comes to this end
+pub record IsReadAs (A B : Automaton) (verdict : Verdict (List NodeRow)) (text : List ℕ) : Type 0 where
+  pub short : length text ≤ 134217728
+  pub judged : judged_certificate A B text ≡ verdict
+
+-- the first two files spell automata, and reading the third for them comes to this end
+pub record IsNoCertificate (files : Option (List File)) (request : CheckRequest) (verdict : Verdict (List NodeRow)) : Type 0 where
+  pub first : Automaton
+  pub second : Automaton
+  pub spelled : AreSpelled files (automata_of request) (first ∷ second ∷ [])
+  pub read : Told files request.certificate (IsReadAs first second verdict)
+
+-- a file was read whole and gives no automaton, or no certificate; and the line that says so
+pub data IsFaulty (files : Option (List File)) (request : CheckRequest) : List ℕ → Type 0 where
+  NoAutomaton : (place : ℕ) → IsRefused files (automata_of request) SpellsNone place → IsFaulty files request (syntax_line place)
+  BadText : (at : ℕ) → IsNoCertificate files request (BadAt at) → IsFaulty files request (bad_text_line at)
+  UnknownName : (at : ℕ) → IsNoCertificate files request (UnknownAt at) → IsFaulty files request (unknown_name_line at)
