@@ -1,1 +1,5 @@
 pub mod Listing
+pub mod Tuples
+pub mod Classes
+pub mod Restriction
+pub mod Pairing

@@ -1,14 +1,21 @@
-//! Tree automata as lists: names, ranked symbols, rules, and the automaton that they make.
+//! Tree automata as lists: names, ranked symbols, rules, and the automaton that they make. `Table`
+//! and `Joint` are one automaton and two in an encoding.
 #![tactic(auto)]
 
+mod joint;
 mod listed;
 mod name;
 mod rule;
 mod symbol;
+mod table;
 #[cfg(test)]
 mod tests;
+mod tuples;
 
+pub use joint::{Joint, PairError};
 pub use listed::Listed;
 pub use name::{Name, NameError};
 pub use rule::{Kids, Rule};
 pub use symbol::Symbol;
+pub use table::{Class, Table, UpClass};
+pub use tuples::Tuples;

@@ -4,6 +4,7 @@ ghost use Rattle.std.specs.Prelude.{◌≡◌, IfOk, IsErrOf, IsTrue, false, ◌
 ghost use Rattle.std.specs.List.{list_all};
 ghost use Rattle.tree_definitions.specs.Name.{IsName, has_arrow, is_name, is_name_byte, is_section_word};
 
+use smallvec::SmallVec;
 use std::alloc::{AllocError, Global};
 use std::cmp::Ordering;
 use std::hash::{Hash, Hasher};
@@ -17,10 +18,11 @@ pub enum NameError {
     Memory,
 }
 
-/// A name: a word that opens no section of a file. It is seen as its bytes.
+/// A name: a word that opens no section of a file. It is seen as its bytes, of which up to 16 stand
+/// inline.
 #[derive(Debug, Drop)]
 pub struct Name {
-    bytes: Vec<u8>,
+    bytes: SmallVec<u8, 16, Global>,
 }
 
 impl Model for Name {
@@ -94,17 +96,27 @@ impl Name {
         if !are_name(bytes) {
             return Err(NameError::Bad);
         }
-        match Vec::from_slice(alloc, bytes) {
+        match SmallVec::from_slice(alloc, bytes) {
             Ok(bytes) => Ok(Name { bytes }),
             Err(_) => Err(NameError::Memory),
         }
+    }
+
+    /// The name with these bytes, which are known to be one.
+    pub fn known(alloc: Global, bytes: &[u8]) -> Result<Name, AllocError>
+        requires { IsName bytes.now }
+        ensures { IfOk result (λ name. name ≡ bytes.now) }
+    {
+        Ok(Name {
+            bytes: SmallVec::from_slice(alloc, bytes)?,
+        })
     }
 
     pub fn bytes(&self) -> &[u8]
         ensures value { result.now ≡ self.now }
         ensures name { IsName self.now }
     {
-        &self.bytes
+        self.bytes.as_slice()
     }
 }
 
@@ -179,7 +191,7 @@ impl Clone for Name {
 
     fn clone(&self) -> Result<Name, AllocError> {
         Ok(Name {
-            bytes: self.bytes.clone()?,
+            bytes: SmallVec::from_slice(*self.bytes.allocator(), self.bytes.as_slice())?,
         })
     }
 }

@@ -3,6 +3,7 @@
 use smallvec::SmallVec;
 use std::alloc::{AllocError, Global};
 use std::cmp::Ordering;
+use std::hash::{Hash, Hasher};
 use std::marker::Model;
 
 /// Places of children, from the left. Up to four stand inline.
@@ -78,6 +79,22 @@ impl Ord for Rule {
             .cmp(&other.parent)
             .then(self.symbol.cmp(&other.symbol))
             .then(self.kids.as_slice().cmp(other.kids.as_slice()))
+    }
+}
+
+impl Hash for Rule {
+    ghost use Rattle.std.specs.Hash as fed;
+    ghost use Rattle.std.specs.Prelude.{◌++◌};
+    ghost use Rattle.tree_definitions.proofs.CanonicalForms.{rules_total, rules_exact, ties_decide};
+
+    ghost hash_input = { λ r. fed.u32 r.symbol ++ fed.slice fed.u32 r.kids ++ fed.u32 r.parent };
+
+    ghost respects_eq = { (fed.same_Alike (λ r. fed.u32 r.symbol ++ fed.slice fed.u32 r.kids ++ fed.u32 r.parent) (ties_decide rules_total rules_exact)).fed };
+
+    fn hash<H: Hasher>(&self, state: &mut H) {
+        self.symbol.hash(state);
+        self.kids.as_slice().hash(state);
+        self.parent.hash(state);
     }
 }
 

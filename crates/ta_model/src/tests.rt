@@ -1,6 +1,6 @@
 //! Which bytes are a name, and that the calls which take memory answer.
 
-use crate::{Name, NameError, Rule, Symbol};
+use crate::{Name, NameError, Rule, Symbol, Tuples};
 use smallvec::SmallVec;
 use std::alloc::AllocError;
 
@@ -57,5 +57,17 @@ fn copies_are_equal(rt: HostRuntime) -> Result<(), AllocError> {
         parent: 2,
     };
     assert!(rt; rule.clone()? == rule);
+    Ok(())
+}
+
+#[test]
+fn tuples_keep_their_places(rt: HostRuntime) -> Result<(), AllocError> {
+    let alloc = rt.alloc();
+    let mut items = Vec::new(alloc);
+    items.push(SmallVec::from_slice(alloc, &[1])?)?;
+    items.push(SmallVec::from_slice(alloc, &[1, 0])?)?;
+    let tuples = Tuples::new(items);
+    assert_eq!(rt; tuples.len(), 2);
+    assert_eq!(rt; tuples.at(1).as_slice(), [1, 0].as_slice());
     Ok(())
 }

@@ -1,6 +1,7 @@
-pub mod Text
-pub mod Fitting
-pub mod Plain
 pub mod Fed
+pub mod Fitting
+pub mod Scan
+pub mod Table
+pub mod Store
+pub mod Taking
 pub mod Reading
-pub mod Parts

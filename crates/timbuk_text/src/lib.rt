@@ -1,11 +1,17 @@
-//! Automata as text.
+//! Automata as text: a reader of files, and a printer.
 #![tactic(auto)]
 
-mod fitting;
-mod parts;
+mod error;
 mod printer;
 mod reader;
 mod reading;
+mod scan;
+mod table;
+mod tables;
+mod taking;
+#[cfg(test)]
+mod tests;
 
+pub use error::{Counted, TextError};
 pub use printer::print;
-pub use reader::{Reader, TextError};
+pub use reader::Reader;

@@ -5,22 +5,27 @@ ghost use Rattle.std.specs.List.{flat_map};
 ghost use Rattle.tree_definitions.specs.Canonical.{canon};
 ghost use Rattle.ta_model.specs.Listing.{IsListed};
 ghost use Rattle.timbuk_text.specs.Fitting.{IsRuleOver};
-ghost use Rattle.timbuk_text.specs.Text.{blank, finals_text, kids_text, name_at, ops_text, plain_text, rule_text, rules_text, op_text, states_text, symbol_at, title_text};
+ghost use Rattle.timbuk_definitions.specs.Reading.{Spells};
+ghost use Rattle.timbuk_definitions.specs.Printed.{print, blank, finals_text, kids_text, name_at, ops_text, plain_text, rule_text, rules_text, op_text, states_text, symbol_at, title_text};
 
 use std::alloc::{AllocError, Global};
 use ta_model::{Listed, Name, Rule, Symbol};
 
-/// The text of the automaton with its finals and rules in rising order.
+/// The text of the automaton with its finals and rules in rising order. It spells this form.
 pub fn print(a: &Listed) -> Result<Vec<u8>, AllocError>
-    ensures { IfOk result (λ v. v.items ≡ plain_text (canon a.now)) }
+    ensures text { IfOk result (λ v. v.items ≡ print a.now) }
+    ensures spells { IfOk result (λ v. Spells v.items (canon a.now)) }
 {
-    plain(&a.canon()?)
+    let canonical = a.canon()?;
+    plain(&canonical)
 }
 
 /// The text of the automaton with its finals and rules in their order.
-#[tactic(auto, unfolding(crate::specs::Text::plain_text))]
-pub fn plain(a: &Listed) -> Result<Vec<u8>, AllocError>
-    ensures { IfOk result (λ v. v.items ≡ plain_text a.now) }
+#[tactic(auto, unfolding(timbuk_definitions::specs::Printed::plain_text))]
+fn plain(a: &Listed) -> Result<Vec<u8>, AllocError>
+    ensures text { IfOk result (λ v. v.items ≡ plain_text a.now) }
+    ensures small { OnOk result (All (λ s. s.rank < 256) a.now.symbols) }
+    ensures listed { OnOk result (IsListed a.now) }
 {
     let mut out = Vec::new(a.allocator());
     put_ops(&mut out, a.symbols())?;
@@ -32,7 +37,8 @@ pub fn plain(a: &Listed) -> Result<Vec<u8>, AllocError>
 }
 
 fn put_ops(out: &mut Vec<u8>, symbols: &[Symbol]) -> Result<(), AllocError>
-    ensures { OnOk result (out.new.items ≡ out.old.items ++ ops_text symbols.now) }
+    ensures text { OnOk result (out.new.items ≡ out.old.items ++ ops_text symbols.now) }
+    ensures small { OnOk result (All (λ s. s.rank < 256) symbols.now) }
 {
     out.extend_from_slice(b"Ops")?;
     for symbol in symbols {
@@ -43,12 +49,14 @@ fn put_ops(out: &mut Vec<u8>, symbols: &[Symbol]) -> Result<(), AllocError>
 }
 
 fn put_op(out: &mut Vec<u8>, symbol: &Symbol) -> Result<(), AllocError>
-    ensures { OnOk result (out.new.items ≡ out.old.items ++ blank (op_text symbol.now)) }
+    ensures text { OnOk result (out.new.items ≡ out.old.items ++ blank (op_text symbol.now)) }
+    ensures small { symbol.now.rank < 256 }
 {
+    let rank = symbol.rank;
     out.push(b' ')?;
     out.extend_from_slice(symbol.name.bytes())?;
     out.push(b':')?;
-    let rank = symbol.rank.to_string(*out.allocator())?;
+    let rank = rank.to_string(*out.allocator())?;
     out.extend_from_slice(rank.as_bytes())?;
     Ok(())
 }

@@ -1,40 +1,16 @@
-//! The reader of plain texts.
+//! The reader of files.
 
-ghost use Rattle.std.specs.Prelude.{◌≡◌, ◌<◌, ◌+◌, ◌++◌, [], false, true, length, IfOk, OnOk, OnErr, IsErr, IsErrOf, MatchResult};
+ghost use Rattle.std.specs.Prelude.{◌≡◌, ◌⊎◌, ℕ, ◌<◌, ◌+◌, ◌++◌, [], false, true, length, IfOk, OnOk, OnErr, IsErr, IsErrOf, MatchResult};
 ghost use Rattle.tree_definitions.specs.Automaton.{Automaton};
-ghost use Rattle.timbuk_text.specs.declared.reader.TextError.TheVariants.{Memory};
+ghost use Rattle.timbuk_definitions.specs.Place.{IsBadPlace, PassesLimit, PassesNoLimit};
+ghost use Rattle.timbuk_definitions.specs.Reading.{Spells};
+ghost use Rattle.timbuk_text.specs.Taking.{limit_of};
 
-use crate::reading::automaton_of;
-use std::alloc::{AllocError, AllocFailed, Global};
+use crate::error::{Counted, TextError};
+use crate::reading::listed_of;
+use std::alloc::{AllocError, Global};
 use std::marker::Model;
 use ta_model::Listed;
-use thiserror::Error;
-
-/// Why a text gives no automaton.
-#[derive(Clone, Copy, Debug, PartialEq, Eq, Error)]
-pub enum TextError {
-    /// It is the plain text of no automaton within the limits.
-    #[error("not the plain text of an automaton")]
-    Syntax,
-    #[error("out of memory")]
-    Memory,
-}
-
-impl From<AllocError> for TextError {
-    ghost from_gives = { λ _ e. e ≡ Memory };
-
-    fn from(_e: AllocError) -> TextError {
-        TextError::Memory
-    }
-}
-
-impl<T: Drop> From<AllocFailed<T>> for TextError {
-    ghost from_gives = { λ _ e. e ≡ Memory };
-
-    fn from(_e: AllocFailed<T>) -> TextError {
-        TextError::Memory
-    }
-}
 
 /// A text that comes in pieces.
 #[derive(Drop)]
@@ -52,8 +28,6 @@ impl Model for Reader {
 }
 
 impl Reader {
-    ghost use Rattle.timbuk_text.specs.Plain.{IsPlainTextOf};
-
     pub fn new(alloc: Global) -> Reader
         ensures { result ≡ record { text = []; failed = false } }
     {
@@ -82,15 +56,25 @@ impl Reader {
         }
     }
 
-    /// The automaton whose plain text it is.
+    /// The automaton that the text spells, in the order of the text.
     pub fn finish(self) -> Result<Listed, TextError>
-        ensures found { IfOk result (λ a. IsPlainTextOf self.text a) }
-        ensures only { (a : Automaton) → IsPlainTextOf self.text a → MatchResult result (λ found. found ≡ a) (λ e. e ≡ Memory) }
+        // Each answer says what the text is,
+        ensures ok { IfOk result (λ a. Spells self.text a × PassesNoLimit self.text) }
+        ensures syntax { (at : ℕ) → IsErrOf result (TextError.Syntax at) → IsBadPlace self.text at × PassesNoLimit self.text }
+        ensures limit { (what : Counted) (at : ℕ) → IsErrOf result (TextError.Limit what at) → PassesLimit self.text (limit_of what) at }
+
+        // and each text has its answer, unless memory runs out.
+        ensures spelled { (a : Automaton) → Spells self.text a → PassesNoLimit self.text →
+            MatchResult result (λ found. found ≡ a) (λ error. error ≡ TextError.Memory) }
+        ensures bad { (at : ℕ) → IsBadPlace self.text at → PassesNoLimit self.text →
+            IsErrOf result (TextError.Syntax at) ⊎ IsErrOf result TextError.Memory }
+        ensures over { (what : Counted) (at : ℕ) → PassesLimit self.text (limit_of what) at →
+            IsErrOf result (TextError.Limit what at) ⊎ IsErrOf result TextError.Memory }
         ensures failed { self.failed ≡ true → IsErrOf result TextError.Memory }
     {
         if self.failed {
             return Err(TextError::Memory);
         }
-        automaton_of(*self.text.allocator(), &self.text)
+        listed_of(self.text)
     }
 }

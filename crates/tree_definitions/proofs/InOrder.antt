@@ -73,21 +73,21 @@ canon_finals A q = in_order_same nat_cmp nat_cmp_total exact_unsigned A.finals q
 pub canon_rules : (A : Automaton) (r : Rule) → Contains (canon A).rules r ↔ Contains A.rules r
 canon_rules A r = in_order_same rule_cmp rules_total rules_exact A.rules r
 
-rule_out : (A : Automaton) (a : Symbol) (kids : List ℕ) (p : ℕ) → HasRule (canon A) a kids p → HasRule A a kids p
+pub rule_out : (A : Automaton) (a : Symbol) (kids : List ℕ) (p : ℕ) → HasRule (canon A) a kids p → HasRule A a kids p
 unfolding IsRule IsLabel
 rule_out A a kids p h =
     let line : Rule = record { symbol = h.1.0; kids = kids; parent = p } in
     let place = place_of A.rules line ((canon_rules A line).0 (contains_at (canon A).rules h.0 line h.1.2)) in
     (place.0, (h.1.0, h.1.1, place.1))
 
-rule_in : (A : Automaton) (a : Symbol) (kids : List ℕ) (p : ℕ) → HasRule A a kids p → HasRule (canon A) a kids p
+pub rule_in : (A : Automaton) (a : Symbol) (kids : List ℕ) (p : ℕ) → HasRule A a kids p → HasRule (canon A) a kids p
 unfolding IsRule IsLabel
 rule_in A a kids p h =
     let line : Rule = record { symbol = h.1.0; kids = kids; parent = p } in
     let place = place_of (canon A).rules line ((canon_rules A line).1 (contains_at A.rules h.0 line h.1.2)) in
     (place.0, (h.1.0, h.1.1, place.1))
 
-moved : (H G : Symbol → List ℕ → ℕ → Type 0) → ((a : Symbol) (kids : List ℕ) (p : ℕ) → H a kids p → G a kids p)
+pub moved : (H G : Symbol → List ℕ → ℕ → Type 0) → ((a : Symbol) (kids : List ℕ) (p : ℕ) → H a kids p → G a kids p)
     → (i q : ℕ) → i ≡ q → (a : Symbol) (kids : List ℕ) → H a kids i → (qs : List ℕ) × G a qs q × AllZip (λ x y. x ≡ y) kids qs
 moved H G f i q e a kids h = (kids, f a kids q (subst (H a kids) e h), each_same kids)
   where

@@ -5,7 +5,7 @@ use Rattle.std.specs.Io.KnownBytes.{Appends}
 use Rattle.vata_outside.specs.Outside.{AppendsPrefix, File}
 use Rattle.tree_definitions.specs.Automaton.{Automaton}
 use Rattle.tree_definitions.specs.Canonical.{canon}
-use Rattle.timbuk_text.specs.Text.{plain_text}
+use Rattle.timbuk_definitions.specs.Printed.{plain_text}
 use Rattle.vata_core.specs.Request.{Load}
 use Rattle.vata_core.specs.Answer.{Listing}
 use Rattle.vata_core.specs.Files.{IsSpelled}

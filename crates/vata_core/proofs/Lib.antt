@@ -3,3 +3,4 @@ pub mod Answered
 pub mod Pieces
 pub mod Walk
 pub mod Reasons
+pub mod Halts

@@ -1,27 +1,69 @@
 -- The files of the checker are read in order, and the first that gives nothing ends the walk. Where the
 -- files are told, two ways to end exclude each other.
-use Rattle.std.proofs.Common.{◌≡◌, ℕ, zero, suc, ◌<◌, ◌≤◌, List, [], ◌∷◌, length, Some, None, refl, sym, ap, ◌∙◌, subst, arith}
-use Rattle.std.specs.Prelude.{take, slice_get, unwrap_or}
+use Rattle.std.proofs.Common.{◌≡◌, ◌⊎◌, ℕ, zero, suc, ◌<◌, ◌≤◌, List, [], ◌∷◌, length, Some, None, inl, inr, refl, sym, ap, ◌∙◌, subst, arith}
+use Rattle.std.specs.Prelude.{take, slice_get, unwrap_or, All, ◌^◌}
+use Rattle.std.proofs.lemmas.List.Elements.{All-from_recursion}
+use Rattle.tree_definitions.specs.Name.{IsName}
 use Rattle.std.specs.declared.option.Option.{Option}
 use Rattle.vata_outside.specs.Outside.{File, IsMissing, bytes_of}
 use Rattle.tree_definitions.specs.Automaton.{Automaton}
 use Rattle.tree_definitions.specs.Witness.{NodeRow}
 use Rattle.ta_model.specs.Listing.{IsListed}
 use Rattle.witness_trees.specs.Judged.{Verdict, Is, BadAt, UnknownAt}
-use Rattle.timbuk_text.specs.Plain.{IsPlainTextOf}
-use Rattle.timbuk_text.proofs.Back.{automaton_back, same_read}
+use Rattle.timbuk_definitions.specs.Place.{Limit}
+use Rattle.timbuk_definitions.proofs.Spelled.{one_spelled}
+use Rattle.timbuk_definitions.proofs.BadPlaces.{no_file_with_bad_place}
+use Rattle.timbuk_definitions.proofs.Unlimited.{spelled_formed, spelled_named, spelled_small}
 use Rattle.incl_certificate.specs.Text.{judged_certificate, certificate_text}
 use Rattle.incl_certificate.specs.declared.certificate.Certificate.{Certificate}
 use Rattle.incl_certificate.specs.declared.certificate.Certificate.TheVariants.{Tree}
 use Rattle.incl_certificate.proofs.ReadBack.{printed_back}
 use Rattle.vata_core.specs.CheckRequest.{CheckRequest, all_of, automata_of}
-use Rattle.vata_core.specs.Files.{AreSpelled, ComesTo, IsRefused, IsSpelled, Spells, SpellsNone, Told}
+use Rattle.vata_core.specs.Files.{AreSpelled, ComesTo, IsBadAt, IsFileOf, IsOverAt, IsRefused, IsSpelled, IsTooLong, Told}
 use Rattle.vata_core.specs.Judgement.{IsCertificateOf}
 use Rattle.vata_core.specs.NoCertificate.{IsNoCertificate, IsReadAs, IsTooLongAt, most_bytes}
 
 -- a text spells one automaton
-pub one_automaton : (bytes : List ℕ) (A B : Automaton) → Spells bytes A → Spells bytes B → A ≡ B
-one_automaton bytes A B a b = sym (same_read bytes A B a.text (automaton_back bytes B b.text))
+pub one_automaton : (bytes : List ℕ) (A B : Automaton) → IsFileOf A bytes → IsFileOf B bytes → A ≡ B
+one_automaton bytes A B a b = one_spelled bytes A B a.text b.text
+
+-- what a file spells is a listed automaton
+listed : (bytes : List ℕ) (A : Automaton) → IsFileOf A bytes → IsListed A
+listed bytes A a =
+    let names = spelled_named bytes A a.text a.within in
+    let few = spelled_small bytes A a.text a.within in
+    record {
+      automaton = spelled_formed bytes A a.text;
+      name = names.name;
+      symbol_names = (λ k d lt. (All-from_recursion (λ s. IsName s.name × (s.rank < 2 ^ 64)) A.symbols names.symbols k d lt).0);
+      state_names = All-from_recursion IsName A.states names.states;
+      few_symbols = few.few_symbols;
+      few_states = omega (arith, few.few_states);
+      few_rules = omega (arith, few.few_rules);
+    }
+
+-- ways in which the bytes of a file give no automaton
+abbrev pub IsBad : List ℕ → Type 0
+IsBad bytes = (at : ℕ) × IsBadAt at bytes
+
+abbrev pub IsOver : List ℕ → Type 0
+IsOver bytes = (what : Limit) × (at : ℕ) × IsOverAt what at bytes
+
+pub bad_not_spelled : (bytes : List ℕ) (A : Automaton) → IsBad bytes → IsFileOf A bytes → ⊥
+bad_not_spelled bytes A b a = no_file_with_bad_place bytes b.0 a.text.0 b.1.bad a.text.1 a.text.2
+
+pub over_not_spelled : (bytes : List ℕ) (A : Automaton) → IsOver bytes → IsFileOf A bytes → ⊥
+over_not_spelled bytes A o a = a.within o.0 o.1 o.2.over
+
+pub long_not_spelled : (bytes : List ℕ) (A : Automaton) → IsTooLong bytes → IsFileOf A bytes → ⊥
+long_not_spelled bytes A l a = omega (arith, l, a.short)
+
+pub bad_not_over : (bytes : List ℕ) → IsBad bytes → IsOver bytes → ⊥
+bad_not_over bytes b o = b.1.within o.0 o.1 o.2.over
+
+-- what is told is told more weakly
+pub told_so : (fs : List File) (name : List ℕ) (P Q : List ℕ → Type 0) → ((bytes : List ℕ) → P bytes → Q bytes) → Told (Some fs) name P → Told (Some fs) name Q
+told_so fs name P Q f h = (h.0, h.1, f h.0 h.2)
 
 module _ (fs : List File) (r : CheckRequest) where
   -- two facts about the bytes of one file
@@ -65,8 +107,11 @@ module _ (fs : List File) (r : CheckRequest) where
   abbrev pub Long : ℕ → List ℕ → Type 0
   Long place name = Told (Some fs) name (IsTooLongAt place)
 
-  abbrev pub Spelless : ℕ → List ℕ → Type 0
-  Spelless place name = (place < 2) × Told (Some fs) name SpellsNone
+  abbrev pub Over : ℕ → List ℕ → Type 0
+  Over place name = (place < 2) × Told (Some fs) name IsOver
+
+  abbrev pub Bad : ℕ → List ℕ → Type 0
+  Bad place name = (place < 2) × Told (Some fs) name IsBad
 
   abbrev pub Lost : ℕ → List ℕ → Type 0
   Lost place name = IsMissing (Some fs) name
@@ -85,16 +130,21 @@ module _ (fs : List File) (r : CheckRequest) where
 
   long_ends : Ends Long
   long_ends place name A h l s =
-      let both = told_both name (IsTooLongAt place) (λ bytes. Spells bytes A) l s in
+      let both = told_both name (IsTooLongAt place) (IsFileOf A) l s in
       omega (arith, most place h, both.1, both.2.short)
 
-  spelless_ends : Ends Spelless
-  spelless_ends place name A h l s =
-      let both = told_both name SpellsNone (λ bytes. Spells bytes A) l.1 s in
-      both.1.none A both.2.text
+  over_ends : Ends Over
+  over_ends place name A h o s =
+      let both = told_both name IsOver (IsFileOf A) o.1 s in
+      over_not_spelled both.0 A both.1 both.2
+
+  bad_ends : Ends Bad
+  bad_ends place name A h b s =
+      let both = told_both name IsBad (IsFileOf A) b.1 s in
+      bad_not_spelled both.0 A both.1 both.2
 
   lost_ends : Ends Lost
-  lost_ends place name A h l s = told_not_missing name (λ bytes. Spells bytes A) l s
+  lost_ends place name A h l s = told_not_missing name (IsFileOf A) l s
 
   whole_ends : Ends Whole
   whole_ends place name A h l s = absurd (omega (arith, h, l.0))
@@ -116,24 +166,35 @@ module _ (fs : List File) (r : CheckRequest) where
   clash P Q apart ep eq (suc (suc zero)) (suc (suc (suc n))) c d = d
   clash P Q apart ep eq (suc (suc (suc n))) q c d = c
 
-  pub long_or_spelless : (p q : ℕ) → Comes p (Long p) → Comes q (Spelless q) → ⊥
-  long_or_spelless = clash Long Spelless (λ place name l s.
-      let both = told_both name (IsTooLongAt place) SpellsNone l s.1 in
-      omega (arith, most place s.0, both.1, both.2.short)) long_ends spelless_ends
+  pub long_or_bad : (p q : ℕ) → Comes p (Long p) → Comes q (Bad q) → ⊥
+  long_or_bad = clash Long Bad (λ place name l b.
+      let both = told_both name (IsTooLongAt place) IsBad l b.1 in
+      omega (arith, most place b.0, both.1, both.2.1.short)) long_ends bad_ends
+
+  pub over_or_bad : (p q : ℕ) → Comes p (Over p) → Comes q (Bad q) → ⊥
+  over_or_bad = clash Over Bad (λ place name o b.
+      let both = told_both name IsOver IsBad o.1 b.1 in
+      bad_not_over both.0 both.2 both.1) over_ends bad_ends
 
   pub long_or_lost : (p q : ℕ) → Comes p (Long p) → Comes q (Lost q) → ⊥
   long_or_lost = clash Long Lost (λ place name l m. told_not_missing name (IsTooLongAt place) m l) long_ends lost_ends
+
+  pub over_or_lost : (p q : ℕ) → Comes p (Over p) → Comes q (Lost q) → ⊥
+  over_or_lost = clash Over Lost (λ place name o m. told_not_missing name IsOver m o.1) over_ends lost_ends
+
+  pub bad_or_lost : (p q : ℕ) → Comes p (Bad p) → Comes q (Lost q) → ⊥
+  bad_or_lost = clash Bad Lost (λ place name b m. told_not_missing name IsBad m b.1) bad_ends lost_ends
 
   pub long_or_whole : (p q : ℕ) → Comes p (Long p) → Comes q (Whole q) → ⊥
   long_or_whole = clash Long Whole (λ place name l w.
       let both = told_both name (IsTooLongAt place) (λ bytes. length bytes ≤ 134217728) l w.1 in
       omega (arith, ap most_bytes w.0, both.1, both.2)) long_ends whole_ends
 
-  pub spelless_or_lost : (p q : ℕ) → Comes p (Spelless p) → Comes q (Lost q) → ⊥
-  spelless_or_lost = clash Spelless Lost (λ place name s m. told_not_missing name SpellsNone m s.1) spelless_ends lost_ends
+  pub over_or_whole : (p q : ℕ) → Comes p (Over p) → Comes q (Whole q) → ⊥
+  over_or_whole = clash Over Whole (λ place name o w. absurd (omega (arith, o.0, w.0))) over_ends whole_ends
 
-  pub spelless_or_whole : (p q : ℕ) → Comes p (Spelless p) → Comes q (Whole q) → ⊥
-  spelless_or_whole = clash Spelless Whole (λ place name s w. absurd (omega (arith, s.0, w.0))) spelless_ends whole_ends
+  pub bad_or_whole : (p q : ℕ) → Comes p (Bad p) → Comes q (Whole q) → ⊥
+  bad_or_whole = clash Bad Whole (λ place name b w. absurd (omega (arith, b.0, w.0))) bad_ends whole_ends
 
   pub lost_or_whole : (p q : ℕ) → Comes p (Lost p) → Comes q (Whole q) → ⊥
   lost_or_whole = clash Lost Whole (λ place name m w. told_not_missing name (λ bytes. length bytes ≤ 134217728) m w.1) lost_ends whole_ends
@@ -147,8 +208,8 @@ module _ (fs : List File) (r : CheckRequest) where
   pub same_end : (A B C D : Automaton) (P Q : Verdict (List NodeRow)) → AreSpelled (Some fs) (automata_of r) (A ∷ B ∷ []) → AreSpelled (Some fs) (automata_of r) (C ∷ D ∷ [])
       → Told (Some fs) r.certificate (IsReadAs A B P) → Told (Some fs) r.certificate (IsReadAs C D Q) → P ≡ Q
   same_end A B C D P Q s t p q =
-      let first = told_both r.first (λ bytes. Spells bytes A) (λ bytes. Spells bytes C) s.0 t.0 in
-      let second = told_both r.second (λ bytes. Spells bytes B) (λ bytes. Spells bytes D) s.1.0 t.1.0 in
+      let first = told_both r.first (IsFileOf A) (IsFileOf C) s.0 t.0 in
+      let second = told_both r.second (IsFileOf B) (IsFileOf D) s.1.0 t.1.0 in
       let text = told_both r.certificate (IsReadAs A B P) (IsReadAs C D Q) p q in
       sym text.1.judged
       ∙ ap (λ x. judged_certificate x B text.0) (one_automaton first.0 A C first.1 first.2)
@@ -159,5 +220,5 @@ module _ (fs : List File) (r : CheckRequest) where
   pub read_as : (A B : Automaton) (c : Certificate) → AreSpelled (Some fs) (automata_of r) (A ∷ B ∷ []) → Told (Some fs) r.certificate (IsCertificateOf A B c)
       → (rows : List NodeRow) × Told (Some fs) r.certificate (IsReadAs A B (Is rows))
   read_as A B (Tree nodes) s t =
-      let back = printed_back A B (Tree nodes) s.0.2.text.small.listed s.1.0.2.text.small.listed t.2.fits in
+      let back = printed_back A B (Tree nodes) (listed s.0.0 A s.0.2) (listed s.1.0.0 B s.1.0.2) t.2.fits in
       (nodes.rows, (t.0, t.1, record { short = t.2.short; judged = ap (judged_certificate A B) t.2.text ∙ back.0 }))

@@ -2,7 +2,7 @@
 use Rattle.std.specs.Prelude.{◌≡◌, ℕ, List, [], ◌∷◌}
 use Rattle.tree_definitions.specs.Automaton.{Automaton}
 use Rattle.tree_definitions.specs.Canonical.{canon}
-use Rattle.timbuk_text.specs.Text.{plain_text}
+use Rattle.timbuk_definitions.specs.Printed.{plain_text}
 use Rattle.vata_core.specs.Request.{Request, Load}
 use Rattle.vata_core.specs.declared.status.Status.{Status}
 use Rattle.vata_core.specs.declared.status.Status.TheVariants as status

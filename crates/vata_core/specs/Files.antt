@@ -5,21 +5,29 @@ use Rattle.std.specs.List.{AllZip}
 use Rattle.vata_outside.specs.Outside.{File, bytes_of}
 use Rattle.tree_definitions.specs.Automaton.{Automaton}
 use Rattle.tree_definitions.specs.Relation.{IsAt}
-use Rattle.timbuk_text.specs.Plain.{IsPlainTextOf}
+use Rattle.timbuk_definitions.specs.Place.{IsBadPlace, Limit, PassesLimit, PassesNoLimit}
+use Rattle.timbuk_definitions.specs.Reading.{Spells}
 
 -- more bytes than an automaton's file may have, which is 32 mebibytes
 abbrev pub IsTooLong : List ℕ → Type 0
 IsTooLong bytes = 33554432 < length bytes
 
--- the bytes are the text of A
-pub record Spells (bytes : List ℕ) (A : Automaton) : Type 0 where
+-- the bytes spell A within all limits
+pub record IsFileOf (A : Automaton) (bytes : List ℕ) : Type 0 where
   pub short : length bytes ≤ 33554432
-  pub text : IsPlainTextOf bytes A
+  pub text : Spells bytes A
+  pub within : PassesNoLimit bytes
 
--- the bytes are not too many, and no automaton's text
-pub record SpellsNone (bytes : List ℕ) : Type 0 where
+-- the bytes are no file's, from this place on, and pass no limit before it
+pub record IsBadAt (at : ℕ) (bytes : List ℕ) : Type 0 where
   pub short : length bytes ≤ 33554432
-  pub none : (A : Automaton) → ¬ IsPlainTextOf bytes A
+  pub bad : IsBadPlace bytes at
+  pub within : PassesNoLimit bytes
+
+-- the bytes pass this limit at this place, before any bad one
+pub record IsOverAt (what : Limit) (at : ℕ) (bytes : List ℕ) : Type 0 where
+  pub short : length bytes ≤ 33554432
+  pub over : PassesLimit bytes what at
 
 -- where the files are told, there is one of that name, and its bytes have P
 abbrev pub Told : Option (List File) → List ℕ → (List ℕ → Type 0) → Type 0
@@ -28,7 +36,7 @@ Told (Some fs) name P = (bytes : List ℕ) × (bytes_of name fs ≡ Some bytes) 
 
 -- the file of that name spells A, where it is told
 abbrev pub IsSpelled : Option (List File) → List ℕ → Automaton → Type 0
-IsSpelled files name A = Told files name (λ bytes. Spells bytes A)
+IsSpelled files name A = Told files name (IsFileOf A)
 
 -- the files of these names spell these automata
 abbrev pub AreSpelled : Option (List File) → List (List ℕ) → List Automaton → Type 0

@@ -8,3 +8,4 @@ pub mod Refusals
 pub mod CheckRequest
 pub mod Judgement
 pub mod NoCertificate
+pub mod Usage

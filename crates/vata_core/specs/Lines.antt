@@ -4,26 +4,31 @@ use Rattle.std.specs.declared.option.Option.{Option}
 use Rattle.std.specs.Fmt.{decimal}
 use Rattle.std.specs.Io.KnownBytes.{Appends}
 use Rattle.vata_outside.specs.Outside.{AppendsPrefix, Rose}
-
-unfoldable pub usage_line : List ℕ
-usage_line = codes "usage: not built yet\n"
+use Rattle.timbuk_definitions.specs.Place.{Limit, Names, Rank, Symbols, States, Rules}
 
 -- files are numbered from 1 in a line
 abbrev pub file_number : ℕ → List ℕ
 file_number place = decimal (place + 1)
 
-unfoldable pub syntax_line : ℕ → List ℕ
-syntax_line place = codes "syntax: file " ++ file_number place ++ codes "\n"
+unfoldable pub syntax_line : ℕ → ℕ → List ℕ
+syntax_line place at = codes "syntax: file " ++ file_number place ++ codes " at " ++ decimal at ++ codes "\n"
 
 -- the third file is the certificate
-unfoldable pub bad_text_line : ℕ → List ℕ
-bad_text_line at = codes "syntax: file 3 at " ++ decimal at ++ codes "\n"
-
-unfoldable pub unknown_name_line : ℕ → List ℕ
-unknown_name_line at = codes "name: file 3 at " ++ decimal at ++ codes "\n"
+unfoldable pub name_line : ℕ → List ℕ
+name_line at = codes "name: file 3 at " ++ decimal at ++ codes "\n"
 
 unfoldable pub bytes_line : ℕ → List ℕ
 bytes_line place = codes "limit: file " ++ file_number place ++ codes " bytes\n"
+
+unfoldable pub limit_words : Limit → List ℕ
+limit_words Names = codes " names at "
+limit_words Rank = codes " rank at "
+limit_words Symbols = codes " symbols at "
+limit_words States = codes " states at "
+limit_words Rules = codes " rules at "
+
+unfoldable pub limit_line : ℕ → Limit → ℕ → List ℕ
+limit_line place what at = codes "limit: file " ++ file_number place ++ limit_words what ++ decimal at ++ codes "\n"
 
 unfoldable pub read_line : ℕ → List ℕ
 read_line place = codes "read fault: file " ++ file_number place ++ codes "\n"

@@ -7,8 +7,9 @@ use Rattle.tree_definitions.specs.Witness.{NodeRow}
 use Rattle.witness_trees.specs.Judged.{Verdict, BadAt, UnknownAt}
 use Rattle.incl_certificate.specs.Text.{judged_certificate}
 use Rattle.vata_core.specs.CheckRequest.{CheckRequest, all_of, automata_of}
-use Rattle.vata_core.specs.Files.{AreSpelled, IsRefused, SpellsNone, Told}
-use Rattle.vata_core.specs.Lines.{bad_text_line, syntax_line, unknown_name_line}
+use Rattle.timbuk_definitions.specs.Place.{Limit}
+use Rattle.vata_core.specs.Files.{AreSpelled, IsBadAt, IsOverAt, IsRefused, Told}
+use Rattle.vata_core.specs.Lines.{bytes_line, limit_line, name_line, syntax_line}
 
 -- the most bytes that the file at a place may have: 128 mebibytes for the certificate, 32 for an automaton
 abbrev pub most_bytes : ℕ → ℕ
@@ -31,6 +32,11 @@ pub record IsNoCertificate (files : Option (List File)) (request : CheckRequest)
 
 -- a file was read whole and gives no automaton, or no certificate; and the line that says so
 pub data IsFaulty (files : Option (List File)) (request : CheckRequest) : List ℕ → Type 0 where
-  NoAutomaton : (place : ℕ) → IsRefused files (automata_of request) SpellsNone place → IsFaulty files request (syntax_line place)
-  BadText : (at : ℕ) → IsNoCertificate files request (BadAt at) → IsFaulty files request (bad_text_line at)
-  UnknownName : (at : ℕ) → IsNoCertificate files request (UnknownAt at) → IsFaulty files request (unknown_name_line at)
+  NoAutomaton : (place at : ℕ) → IsRefused files (automata_of request) (IsBadAt at) place → IsFaulty files request (syntax_line place at)
+  BadText : (at : ℕ) → IsNoCertificate files request (BadAt at) → IsFaulty files request (syntax_line 2 at)
+  UnknownName : (at : ℕ) → IsNoCertificate files request (UnknownAt at) → IsFaulty files request (name_line at)
+
+-- a file is too long, or an automaton's passes a limit; and the line that says so
+pub data IsBeyond (files : Option (List File)) (request : CheckRequest) : List ℕ → Type 0 where
+  TooLong : (place : ℕ) → IsRefused files (all_of request) (IsTooLongAt place) place → IsBeyond files request (bytes_line place)
+  Over : (place : ℕ) (what : Limit) (at : ℕ) → IsRefused files (automata_of request) (IsOverAt what at) place → IsBeyond files request (limit_line place what at)

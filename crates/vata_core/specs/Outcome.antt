@@ -6,7 +6,9 @@ use Rattle.vata_outside.specs.Outside.{AppendsPrefix, File, IsMissing, Rose}
 use Rattle.tree_definitions.specs.Automaton.{Automaton}
 use Rattle.vata_core.specs.Request.{Request, files_of}
 use Rattle.vata_core.specs.Answer.{Answer, IsRight, answer_text, status_of}
-use Rattle.vata_core.specs.Files.{AreSpelled, ComesTo}
+use Rattle.timbuk_definitions.specs.Place.{Limit as Counted}
+use Rattle.vata_core.specs.Files.{AreSpelled, ComesTo, IsOverAt, IsRefused, IsTooLong}
+use Rattle.vata_core.specs.Lines.{bytes_line, limit_line}
 use Rattle.vata_core.specs.declared.status.Status.{Status}
 use Rattle.vata_core.specs.declared.status.Status.TheVariants.{Done, No, Usage, Undecided, Syntax, Limit, ReadFault, WriteFault, Memory}
 
@@ -58,3 +60,8 @@ pub record FailsToRead (files : Option (List File)) (names : List (List ℕ)) (b
   pub name : List ℕ
   pub first : ComesTo files names place name
   pub cause : Rose before now ⊎ IsMissing files name
+
+-- a file is too long or passes a limit, and those before it spell automata; and the line that says so
+pub data IsLimited (files : Option (List File)) (names : List (List ℕ)) : List ℕ → Type 0 where
+  TooLong : (place : ℕ) → IsRefused files names IsTooLong place → IsLimited files names (bytes_line place)
+  Over : (place : ℕ) (what : Counted) (at : ℕ) → IsRefused files names (IsOverAt what at) place → IsLimited files names (limit_line place what at)

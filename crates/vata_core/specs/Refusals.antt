@@ -5,8 +5,9 @@ use Rattle.vata_outside.specs.Outside.{File, IsMissing, Rose}
 use Rattle.tree_definitions.specs.Automaton.{Automaton}
 use Rattle.witness_trees.specs.Judged.{BadAt, UnknownAt}
 use Rattle.vata_core.specs.CheckRequest.{CheckRequest, all_of, automata_of}
-use Rattle.vata_core.specs.Files.{IsRefused, SpellsNone, Told}
-use Rattle.vata_core.specs.Lines.{bad_text_line, bytes_line, memory_line, read_line, syntax_line, unknown_name_line}
+use Rattle.timbuk_text.specs.Taking.{limit_of}
+use Rattle.vata_core.specs.Files.{IsBadAt, IsOverAt, IsRefused, IsTooLong, Told}
+use Rattle.vata_core.specs.Lines.{bytes_line, limit_line, memory_line, name_line, read_line, syntax_line}
 use Rattle.vata_core.specs.NoCertificate.{IsNoCertificate, IsReadAs, IsTooLongAt}
 use Rattle.vata_core.specs.Outcome.{FailsToRead}
 use Rattle.vata_core.specs.declared.judging.Unjudged.{Unjudged}
@@ -16,35 +17,49 @@ use Rattle.vata_core.specs.declared.loading.Refusal.{Refusal}
 use Rattle.vata_core.specs.declared.loading.Refusal.TheVariants as refusal
 use Rattle.vata_core.specs.declared.status.Status.{Status}
 use Rattle.vata_core.specs.declared.status.Status.TheVariants as status
+use Rattle.vata_core.specs.Usage.{fault_line, not_built_line}
+use Rattle.vata_core.specs.declared.words.Untaken.{Untaken}
+use Rattle.vata_core.specs.declared.words.Untaken.TheVariants as untaken
 
 -- the line for the file at a place
 abbrev pub refusal_line : Refusal → ℕ → List ℕ
 refusal_line refusal.ReadFault place = read_line place
 refusal_line refusal.TooLong place = bytes_line place
-refusal_line refusal.Syntax place = syntax_line place
+refusal_line (refusal.Syntax at) place = syntax_line place at
+refusal_line (refusal.Limit what at) place = limit_line place (limit_of what) at
 refusal_line refusal.Memory place = memory_line
 
 abbrev pub refusal_status : Refusal → Status
 refusal_status refusal.ReadFault = status.ReadFault
 refusal_status refusal.TooLong = status.Limit
-refusal_status refusal.Syntax = status.Syntax
+refusal_status (refusal.Syntax at) = status.Syntax
+refusal_status (refusal.Limit what at) = status.Limit
 refusal_status refusal.Memory = status.Memory
 
 abbrev pub reason_line : Unjudged → List ℕ
 reason_line (unjudged.File place r) = refusal_line r place
-reason_line (BadText at) = bad_text_line at
-reason_line (UnknownName at) = unknown_name_line at
+reason_line (BadText at) = syntax_line 2 at
+reason_line (UnknownName at) = name_line at
 
 abbrev pub reason_status : Unjudged → Status
 reason_status (unjudged.File place r) = refusal_status r
 reason_status (BadText at) = status.Syntax
 reason_status (UnknownName at) = status.Syntax
 
+-- why a run over files of automata has no answer: the file at this place gives none
+abbrev pub IsHalted : Option (List File) → List (List ℕ) → (before now : ℕ) → ℕ → Refusal → Type 0
+IsHalted files names before now place refusal.ReadFault = FailsToRead files names before now place
+IsHalted files names before now place refusal.TooLong = IsRefused files names IsTooLong place
+IsHalted files names before now place (refusal.Syntax at) = IsRefused files names (IsBadAt at) place
+IsHalted files names before now place (refusal.Limit what at) = IsRefused files names (IsOverAt (limit_of what) at) place
+IsHalted files names before now place refusal.Memory = Unit {0}
+
 -- why the file of that name, which is at a place, gives nothing. The first two hold automata
 abbrev pub IsReason : Option (List File) → List ℕ → (before now : ℕ) → ℕ → Refusal → Type 0
 IsReason files name before now place refusal.ReadFault = Rose before now ⊎ IsMissing files name
 IsReason files name before now place refusal.TooLong = Told files name (IsTooLongAt place)
-IsReason files name before now place refusal.Syntax = (place < 2) × Told files name SpellsNone
+IsReason files name before now place (refusal.Syntax at) = (place < 2) × Told files name (IsBadAt at)
+IsReason files name before now place (refusal.Limit what at) = (place < 2) × Told files name (IsOverAt (limit_of what) at)
 IsReason files name before now place refusal.Memory = Unit {0}
 
 abbrev pub IsFileRefused : Option (List File) → List ℕ → (before now : ℕ) → ℕ → Unjudged → Type 0
@@ -62,10 +77,16 @@ IsUnread A B text (UnknownName at) = IsReadAs A B (UnknownAt at) text
 abbrev pub IsStopped : Option (List File) → CheckRequest → (before now : ℕ) → ℕ → Refusal → Type 0
 IsStopped files request before now place refusal.ReadFault = FailsToRead files (all_of request) before now place
 IsStopped files request before now place refusal.TooLong = IsRefused files (all_of request) (IsTooLongAt place) place
-IsStopped files request before now place refusal.Syntax = IsRefused files (automata_of request) SpellsNone place
+IsStopped files request before now place (refusal.Syntax at) = IsRefused files (automata_of request) (IsBadAt at) place
+IsStopped files request before now place (refusal.Limit what at) = IsRefused files (automata_of request) (IsOverAt (limit_of what) at) place
 IsStopped files request before now place refusal.Memory = Unit {0}
 
 abbrev pub IsUnjudged : Option (List File) → CheckRequest → (before now : ℕ) → Unjudged → Type 0
 IsUnjudged files request before now (unjudged.File place r) = IsStopped files request before now place r
 IsUnjudged files request before now (BadText at) = IsNoCertificate files request (BadAt at)
 IsUnjudged files request before now (UnknownName at) = IsNoCertificate files request (UnknownAt at)
+
+-- the line for words that aren't taken
+abbrev pub untaken_line : Untaken → List ℕ
+untaken_line untaken.NotBuilt = not_built_line
+untaken_line (untaken.Fault fault) = fault_line fault

@@ -1,6 +1,12 @@
 -- What the words of a command line ask for.
-use Rattle.std.specs.Prelude.{ℕ, Bool, false, ◌&&◌, not, ◌==◌, List, [], ◌∷◌, codes, Option, None, Some, if◌then◌else◌}
-use Rattle.std.specs.Str.{bytes_eq}
+use Rattle.std.specs.Prelude.{ℕ, Bool, true, false, List, [], ◌∷◌, Option, None, Some, Result, Ok, Err, unwrap_or, slice_get}
+use Rattle.vata_words.specs.Requests.{request_in}
+use Rattle.vata_words.specs.declared.request.Encoding.{Encoding}
+use Rattle.vata_words.specs.declared.request.Encoding.TheVariants.{Expl, Bdd}
+use Rattle.vata_words.specs.declared.request.Request.TheVariants as asks
+use Rattle.vata_words.specs.declared.request.Request.{Request as Asked}
+use Rattle.vata_words.specs.declared.request.WordFault.{WordFault}
+use Rattle.vata_core.specs.Usage.{fault_line, not_built_line}
 
 -- print the canonical text of a file's automaton
 pub data Request : Type 0 where
@@ -10,13 +16,38 @@ pub data Request : Type 0 where
 abbrev pub files_of : Request → List (List ℕ)
 files_of (Load file) = file ∷ []
 
-abbrev pub begins_with_dash : List ℕ → Bool
-begins_with_dash [] = false
-begins_with_dash (b ∷ bs) = b == 45
+-- the word at a place
+abbrev pub word_at : List (List ℕ) → ℕ → List ℕ
+word_at words place = unwrap_or (slice_get words place) []
 
--- the two words `load` and a file that doesn't begin with a dash ask for its text. No other words are taken yet
+-- `load` is built for rules that are kept explicitly, without a trim
+abbrev pub built_load : Encoding → Bool → List ℕ → Option Request
+built_load Expl false file = Some (Load file)
+built_load Expl true file = None
+built_load Bdd trim file = None
+
+-- what is built of what may be asked for
+abbrev pub built : List (List ℕ) → Asked → Option Request
+built words (asks.Load encoding trim file) = built_load encoding trim (word_at words file)
+built words (asks.Union encoding trim first second) = None
+built words (asks.Isect encoding trim first second) = None
+built words (asks.Sim encoding dir file) = None
+built words (asks.Red encoding file) = None
+built words (asks.Incl encoding dir sim budget first second) = None
+built words (asks.Bench encoding n) = None
+
+abbrev pub granted : List (List ℕ) → Result Asked WordFault → Option Request
+granted words (Ok asked) = built words asked
+granted words (Err fault) = None
+
+-- what the words ask for, if it is built
 unfoldable pub request_of : List (List ℕ) → Option Request
-request_of [] = None
-request_of (command ∷ []) = None
-request_of (command ∷ file ∷ []) = if bytes_eq command (codes "load") && not (begins_with_dash file) then Some (Load file) else None
-request_of (command ∷ file ∷ more ∷ rest) = None
+request_of words = granted words (request_in words)
+
+abbrev pub refusal_of : Result Asked WordFault → List ℕ
+refusal_of (Ok asked) = not_built_line
+refusal_of (Err fault) = fault_line fault
+
+-- the line for words that ask for nothing that is built
+unfoldable pub usage_line : List (List ℕ) → List ℕ
+usage_line words = refusal_of (request_in words)

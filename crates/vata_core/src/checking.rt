@@ -5,11 +5,11 @@ ghost use Rattle.std.specs.Io.KnownBytes.{Appends};
 ghost use Rattle.vata_outside.specs.Outside.{File, Rose};
 ghost use Rattle.tree_definitions.specs.Automaton.{Automaton};
 ghost use Rattle.incl_certificate.specs.declared.certificate.Certificate.{Certificate};
-ghost use Rattle.vata_core.specs.CheckRequest.{CheckRequest, all_of, automata_of, check_request_of};
-ghost use Rattle.vata_core.specs.Files.{AreSpelled, IsRefused, Told};
+ghost use Rattle.vata_core.specs.CheckRequest.{CheckRequest, all_of, automata_of, check_request_of, check_usage_line};
+ghost use Rattle.vata_core.specs.Files.{AreSpelled, Told};
 ghost use Rattle.vata_core.specs.Judgement.{IsCertificateOf, Judges, JudgesInPart, accepted_line, judgement_line, judgement_status, refused_line};
-ghost use Rattle.vata_core.specs.Lines.{Tells, bytes_line, memory_line, read_line, usage_line, write_line};
-ghost use Rattle.vata_core.specs.NoCertificate.{IsFaulty, IsTooLongAt};
+ghost use Rattle.vata_core.specs.Lines.{Tells, memory_line, read_line, write_line};
+ghost use Rattle.vata_core.specs.NoCertificate.{IsBeyond, IsFaulty};
 ghost use Rattle.vata_core.specs.Outcome.{FailsToRead, IsAnswered, IsSilent};
 ghost use Rattle.vata_core.specs.Refusals.{reason_status};
 
@@ -17,7 +17,7 @@ use crate::judging::{Judgement, Unjudged, judgement_of};
 use crate::loading::Refusal;
 use crate::running::status_of;
 use crate::status::Status;
-use crate::telling::{tell_reason, tell_refusal, tell_usage, tell_write_fault};
+use crate::telling::{tell_fault, tell_reason, tell_refusal, tell_write_fault};
 use crate::words::files_to_check;
 use incl_certificate::Verdict;
 use std::alloc::{AllocError, Global};
@@ -99,28 +99,28 @@ pub fn check_run<F: Files, K: Sink, E: Sink>(
         (line : List ℕ) × IsFaulty (F.files files.old) request line
         × Tells (E.written diag.old) (E.written diag.new) (E.faults diag.old) (E.faults diag.new) line) }
     ensures limit { result ≡ Status.Limit → IfSome (check_request_of (map string_bytes words.now)) (λ request.
-        (place : ℕ) × IsRefused (F.files files.old) (all_of request) (IsTooLongAt place) place
-        × Tells (E.written diag.old) (E.written diag.new) (E.faults diag.old) (E.faults diag.new) (bytes_line place)) }
+        (line : List ℕ) × IsBeyond (F.files files.old) request line
+        × Tells (E.written diag.old) (E.written diag.new) (E.faults diag.old) (E.faults diag.new) line) }
     ensures read { result ≡ Status.ReadFault → IfSome (check_request_of (map string_bytes words.now)) (λ request.
         (place : ℕ) × FailsToRead (F.files files.old) (all_of request) (F.faults files.old) (F.faults files.new) place
         × Tells (E.written diag.old) (E.written diag.new) (E.faults diag.old) (E.faults diag.new) (read_line place)) }
     ensures write { result ≡ Status.WriteFault → Rose (K.faults out.old) (K.faults out.new) }
 
     ensures usage_told { result ≡ Status.Usage →
-        Tells (E.written diag.old) (E.written diag.new) (E.faults diag.old) (E.faults diag.new) usage_line }
+        Tells (E.written diag.old) (E.written diag.new) (E.faults diag.old) (E.faults diag.new) (check_usage_line (map string_bytes words.now)) }
     ensures write_told { result ≡ Status.WriteFault →
         Tells (E.written diag.old) (E.written diag.new) (E.faults diag.old) (E.faults diag.new) write_line }
     ensures memory_told { result ≡ Status.Memory →
         Tells (E.written diag.old) (E.written diag.new) (E.faults diag.old) (E.faults diag.new) memory_line }
     ensures answer_told { IsAnswered result → Appends (E.written diag.old) (E.written diag.new) [] }
 
-    // A file that is read whole and gives no automaton or no certificate, or is too long, is refused as
-    // such, unless reading fails or memory runs out.
+    // A file that gives no automaton or no certificate, is too long or passes a limit is refused as such,
+    // unless reading fails or memory runs out.
     ensures syntax_due { (request : CheckRequest) (fs : List File) (line : List ℕ) → check_request_of (map string_bytes words.now) ≡ Some request
         → F.files files.old ≡ Some fs → IsFaulty (Some fs) request line
         → ¬ Rose (F.faults files.old) (F.faults files.new) → (result ≡ Status.Syntax) ⊎ (result ≡ Status.Memory) }
-    ensures limit_due { (request : CheckRequest) (fs : List File) (place : ℕ) → check_request_of (map string_bytes words.now) ≡ Some request
-        → F.files files.old ≡ Some fs → IsRefused (Some fs) (all_of request) (IsTooLongAt place) place
+    ensures limit_due { (request : CheckRequest) (fs : List File) (line : List ℕ) → check_request_of (map string_bytes words.now) ≡ Some request
+        → F.files files.old ≡ Some fs → IsBeyond (Some fs) request line
         → ¬ Rose (F.faults files.old) (F.faults files.new) → (result ≡ Status.Limit) ⊎ (result ≡ Status.Memory) }
 
     // Where the files are two automata and a certificate for them, and nothing fails, the judgement is
@@ -131,9 +131,12 @@ pub fn check_run<F: Files, K: Sink, E: Sink>(
         → ¬ Rose (F.faults files.old) (F.faults files.new) → ¬ Rose (K.faults out.old) (K.faults out.new)
         → IsAnswered result ⊎ (result ≡ Status.Memory) }
 {
-    let Some((first, second, certificate)) = files_to_check(words) else {
-        tell_usage(diag);
-        return Status::Usage;
+    let (first, second, certificate) = match files_to_check(words) {
+        Ok(names) => names,
+        Err(fault) => {
+            tell_fault(diag, fault);
+            return Status::Usage;
+        }
     };
     let judgement = match judgement_of(alloc, files, first, second, certificate) {
         Ok(judgement) => judgement,

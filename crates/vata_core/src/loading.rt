@@ -1,14 +1,15 @@
 //! Reading one file.
 
-ghost use Rattle.std.specs.Prelude.{◌≡◌, ◌⊎◌, ◌<◌, ◌≤◌, ◌+◌, false, length, take, vec_len, IfOk, IfSome, IsErrOf};
+ghost use Rattle.std.specs.Prelude.{◌≡◌, ◌⊎◌, ◌<◌, ◌≤◌, ◌+◌, ℕ, false, length, take, vec_len, IfOk, IfSome, IsErrOf};
 ghost use Rattle.std.specs.Io.KnownBytes.{Consumes, IsAtEnd, ReadConsumes};
 ghost use Rattle.vata_outside.specs.Outside.{HasCause, IsMissing, Rose};
-ghost use Rattle.vata_core.specs.Files.{IsSpelled, IsTooLong, SpellsNone, Told};
+ghost use Rattle.timbuk_text.specs.Taking.{limit_of};
+ghost use Rattle.vata_core.specs.Files.{IsBadAt, IsOverAt, IsSpelled, IsTooLong, Told};
 ghost use Rattle.vata_core.specs.NoCertificate.{IsTooLongAt};
 
 use std::alloc::{AllocError, Global};
 use ta_model::Listed;
-use timbuk_text::{Reader, TextError};
+use timbuk_text::{Counted, Reader, TextError};
 use vata_outside::{Failed, Files};
 
 /// The most bytes of an automaton's file.
@@ -25,7 +26,10 @@ const BUFFER: usize = 65_536;
 pub enum Refusal {
     ReadFault,
     TooLong,
-    Syntax,
+    /// No file of the grammar begins with the tokens up to the one at this byte.
+    Syntax { at: u64 },
+    /// The token at this byte takes a count past its limit.
+    Limit { what: Counted, at: u64 },
     Memory,
 }
 
@@ -66,7 +70,8 @@ fn next_piece<F: Files>(
     ensures end { IfOk result (λ n. n ≡ 0 → IsAtEnd (F.left files.new)) }
     ensures long { IsErrOf result Refusal.TooLong → IfSome (F.left files.old) (λ bytes. most < total + length bytes) }
     ensures fault { IsErrOf result Refusal.ReadFault → Rose (F.faults files.old) (F.faults files.new) }
-    ensures no_syntax { IsErrOf result Refusal.Syntax → ⊥ }
+    ensures no_syntax { (at : ℕ) → IsErrOf result (Refusal.Syntax at) → ⊥ }
+    ensures no_limit { (what : Counted) (at : ℕ) → IsErrOf result (Refusal.Limit what at) → ⊥ }
 {
     let room = BUFFER.min(most + 1 - total);
     let Ok(count) = piece_of(files, buffer, room) else {
@@ -87,7 +92,8 @@ fn rest_of<F: Files>(alloc: Global, files: &mut F) -> Result<Reader, Refusal>
     ensures limit { IsErrOf result Refusal.TooLong → IfSome (F.left files.old) IsTooLong }
     ensures later { F.faults files.old ≤ F.faults files.new }
     ensures fault { IsErrOf result Refusal.ReadFault → Rose (F.faults files.old) (F.faults files.new) }
-    ensures no_syntax { IsErrOf result Refusal.Syntax → ⊥ }
+    ensures no_syntax { (at : ℕ) → IsErrOf result (Refusal.Syntax at) → ⊥ }
+    ensures no_limit { (what : Counted) (at : ℕ) → IsErrOf result (Refusal.Limit what at) → ⊥ }
 {
     let mut reader = Reader::new(alloc);
     let Ok(mut buffer) = zeros(alloc, BUFFER) else {
@@ -115,7 +121,8 @@ fn bytes_left<F: Files>(alloc: Global, files: &mut F) -> Result<Vec<u8>, Refusal
     ensures limit { IsErrOf result Refusal.TooLong → IfSome (F.left files.old) (IsTooLongAt 2) }
     ensures later { F.faults files.old ≤ F.faults files.new }
     ensures fault { IsErrOf result Refusal.ReadFault → Rose (F.faults files.old) (F.faults files.new) }
-    ensures no_syntax { IsErrOf result Refusal.Syntax → ⊥ }
+    ensures no_syntax { (at : ℕ) → IsErrOf result (Refusal.Syntax at) → ⊥ }
+    ensures no_limit { (what : Counted) (at : ℕ) → IsErrOf result (Refusal.Limit what at) → ⊥ }
 {
     let mut text = Vec::new(alloc);
     let Ok(mut buffer) = zeros(alloc, BUFFER) else {
@@ -145,7 +152,8 @@ pub fn certificate_text_of<F: Files>(
     ensures later { F.faults files.old ≤ F.faults files.new }
     ensures fault { IsErrOf result Refusal.ReadFault →
         Rose (F.faults files.old) (F.faults files.new) ⊎ IsMissing (F.files files.old) name.now }
-    ensures no_syntax { IsErrOf result Refusal.Syntax → ⊥ }
+    ensures no_syntax { (at : ℕ) → IsErrOf result (Refusal.Syntax at) → ⊥ }
+    ensures no_limit { (what : Counted) (at : ℕ) → IsErrOf result (Refusal.Limit what at) → ⊥ }
 {
     if files.select(name).is_err() {
         return Err(Refusal::ReadFault);
@@ -157,19 +165,25 @@ pub fn certificate_text_of<F: Files>(
 pub fn automaton_of<F: Files>(alloc: Global, files: &mut F, name: &str) -> Result<Listed, Refusal>
     ensures ok { IfOk result (λ a. IsSpelled (F.files files.old) name.now a) }
     ensures same { F.files files.new ≡ F.files files.old }
-    ensures syntax { IsErrOf result Refusal.Syntax → Told (F.files files.old) name.now SpellsNone }
-    ensures limit { IsErrOf result Refusal.TooLong → Told (F.files files.old) name.now IsTooLong }
+    ensures syntax { (at : ℕ) → IsErrOf result (Refusal.Syntax at) → Told (F.files files.old) name.now (IsBadAt at) }
+    ensures limit { (what : Counted) (at : ℕ) → IsErrOf result (Refusal.Limit what at) →
+        Told (F.files files.old) name.now (IsOverAt (limit_of what) at) }
+    ensures long { IsErrOf result Refusal.TooLong → Told (F.files files.old) name.now IsTooLong }
     ensures later { F.faults files.old ≤ F.faults files.new }
     ensures fault { IsErrOf result Refusal.ReadFault →
         Rose (F.faults files.old) (F.faults files.new) ⊎ IsMissing (F.files files.old) name.now }
 {
-    if files.select(name).is_err() {
+    let Ok(()) = files.select(name) else {
         return Err(Refusal::ReadFault);
-    }
-    let reader = rest_of(alloc, files)?;
+    };
+    let reader = match rest_of(alloc, files) {
+        Ok(reader) => reader,
+        Err(refusal) => return Err(refusal),
+    };
     match reader.finish() {
         Ok(a) => Ok(a),
-        Err(TextError::Syntax) => Err(Refusal::Syntax),
+        Err(TextError::Syntax { at }) => Err(Refusal::Syntax { at }),
+        Err(TextError::Limit { what, at }) => Err(Refusal::Limit { what, at }),
         Err(TextError::Memory) => Err(Refusal::Memory),
     }
 }

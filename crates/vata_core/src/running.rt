@@ -1,34 +1,42 @@
 //! The top call of `vata`.
 
-ghost use Rattle.std.specs.Prelude.{◌≡◌, ◌≢◌, ◌≤◌, ◌⊎◌, ◌↔◌, List, ℕ, None, Some, map, IfOk, IfSome, IsErrOf, string_bytes, [], ◌∷◌};
+ghost use Rattle.std.specs.Prelude.{◌≡◌, ◌≢◌, ◌≤◌, ◌⊎◌, ◌↔◌, List, ℕ, None, Some, map, IfOk, IfErr, IfSome, IsErrOf, string_bytes, [], ◌∷◌};
 ghost use Rattle.std.specs.Io.KnownBytes.{Appends};
 ghost use Rattle.vata_outside.specs.Outside.{File, IsMissing, Rose};
 ghost use Rattle.tree_definitions.specs.Automaton.{Automaton};
 ghost use Rattle.tree_definitions.specs.Canonical.{canon};
-ghost use Rattle.timbuk_text.specs.Text.{plain_text};
-ghost use Rattle.vata_core.specs.Request.{Request, files_of, request_of};
-ghost use Rattle.vata_core.specs.Files.{AreSpelled, IsRefused, IsSpelled, IsTooLong, SpellsNone, Told};
-ghost use Rattle.vata_core.specs.Lines.{Tells, bytes_line, memory_line, read_line, syntax_line, usage_line, write_line};
-ghost use Rattle.vata_core.specs.Outcome.{Answers, AnswersInPart, FailsToRead, IsAnswered, IsSilent};
-ghost use Rattle.vata_core.specs.Refusals.{refusal_status};
+ghost use Rattle.timbuk_definitions.specs.Printed.{plain_text};
+ghost use Rattle.timbuk_text.specs.Taking.{limit_of};
+ghost use Rattle.vata_core.specs.Request.{Request, files_of, request_of, usage_line};
+ghost use Rattle.vata_core.specs.Files.{AreSpelled, IsBadAt, IsOverAt, IsRefused, IsSpelled, IsTooLong, Told};
+ghost use Rattle.vata_core.specs.Lines.{Tells, memory_line, read_line, syntax_line, write_line};
+ghost use Rattle.vata_core.specs.Outcome.{Answers, AnswersInPart, FailsToRead, IsAnswered, IsLimited, IsSilent};
+ghost use Rattle.vata_core.specs.Refusals.{IsHalted, refusal_status};
 
 use crate::loading::{Refusal, automaton_of};
 use crate::status::Status;
-use crate::telling::{tell_refusal, tell_usage, tell_write_fault};
+use crate::telling::{tell_refusal, tell_untaken, tell_write_fault};
 use crate::words::file_to_load;
 use std::alloc::Global;
+use timbuk_text::Counted;
 use vata_outside::{Files, Sink, write_all_of};
 
 /// The text to print for a file's automaton.
 fn text_to_load<F: Files>(alloc: Global, name: &str, files: &mut F) -> Result<Vec<u8>, Refusal>
     ensures ok { IfOk result (λ text. (a : Automaton) × IsSpelled (F.files files.old) name.now a × (text.items ≡ plain_text (canon a))) }
-    ensures syntax { IsErrOf result Refusal.Syntax → Told (F.files files.old) name.now SpellsNone }
-    ensures limit { IsErrOf result Refusal.TooLong → Told (F.files files.old) name.now IsTooLong }
+    ensures syntax { (at : ℕ) → IsErrOf result (Refusal.Syntax at) → Told (F.files files.old) name.now (IsBadAt at) }
+    ensures limit { (what : Counted) (at : ℕ) → IsErrOf result (Refusal.Limit what at) →
+        Told (F.files files.old) name.now (IsOverAt (limit_of what) at) }
+    ensures long { IsErrOf result Refusal.TooLong → Told (F.files files.old) name.now IsTooLong }
     ensures later { F.faults files.old ≤ F.faults files.new }
     ensures fault { IsErrOf result Refusal.ReadFault →
         Rose (F.faults files.old) (F.faults files.new) ⊎ IsMissing (F.files files.old) name.now }
+    ensures err { IfErr result (IsHalted (F.files files.old) (name.now ∷ []) (F.faults files.old) (F.faults files.new) 0) }
 {
-    let a = automaton_of(alloc, files, name)?;
+    let a = match automaton_of(alloc, files, name) {
+        Ok(a) => a,
+        Err(refusal) => return Err(refusal),
+    };
     match timbuk_text::print(&a) {
         Ok(text) => Ok(text),
         Err(_) => Err(Refusal::Memory),
@@ -41,7 +49,8 @@ pub fn status_of(refusal: Refusal) -> Status
     match refusal {
         Refusal::ReadFault => Status::ReadFault,
         Refusal::TooLong => Status::Limit,
-        Refusal::Syntax => Status::Syntax,
+        Refusal::Syntax { .. } => Status::Syntax,
+        Refusal::Limit { .. } => Status::Limit,
         Refusal::Memory => Status::Memory,
     }
 }
@@ -67,30 +76,31 @@ pub fn run<F: Files, K: Sink, E: Sink>(
     // Each other status has its cause, which is told.
     ensures usage { (result ≡ Status.Usage) ↔ (request_of (map string_bytes words.now) ≡ None) }
     ensures syntax { result ≡ Status.Syntax → IfSome (request_of (map string_bytes words.now)) (λ request.
-        (place : ℕ) × IsRefused (F.files files.old) (files_of request) SpellsNone place
-        × Tells (E.written diag.old) (E.written diag.new) (E.faults diag.old) (E.faults diag.new) (syntax_line place)) }
+        (place : ℕ) × (at : ℕ) × IsRefused (F.files files.old) (files_of request) (IsBadAt at) place
+        × Tells (E.written diag.old) (E.written diag.new) (E.faults diag.old) (E.faults diag.new) (syntax_line place at)) }
     ensures limit { result ≡ Status.Limit → IfSome (request_of (map string_bytes words.now)) (λ request.
-        (place : ℕ) × IsRefused (F.files files.old) (files_of request) IsTooLong place
-        × Tells (E.written diag.old) (E.written diag.new) (E.faults diag.old) (E.faults diag.new) (bytes_line place)) }
+        (line : List ℕ) × IsLimited (F.files files.old) (files_of request) line
+        × Tells (E.written diag.old) (E.written diag.new) (E.faults diag.old) (E.faults diag.new) line) }
     ensures read { result ≡ Status.ReadFault → IfSome (request_of (map string_bytes words.now)) (λ request.
         (place : ℕ) × FailsToRead (F.files files.old) (files_of request) (F.faults files.old) (F.faults files.new) place
         × Tells (E.written diag.old) (E.written diag.new) (E.faults diag.old) (E.faults diag.new) (read_line place)) }
     ensures write { result ≡ Status.WriteFault → Rose (K.faults out.old) (K.faults out.new) }
 
     ensures usage_told { result ≡ Status.Usage →
-        Tells (E.written diag.old) (E.written diag.new) (E.faults diag.old) (E.faults diag.new) usage_line }
+        Tells (E.written diag.old) (E.written diag.new) (E.faults diag.old) (E.faults diag.new) (usage_line (map string_bytes words.now)) }
     ensures write_told { result ≡ Status.WriteFault →
         Tells (E.written diag.old) (E.written diag.new) (E.faults diag.old) (E.faults diag.new) write_line }
     ensures memory_told { result ≡ Status.Memory →
         Tells (E.written diag.old) (E.written diag.new) (E.faults diag.old) (E.faults diag.new) memory_line }
     ensures answer_told { IsAnswered result → Appends (E.written diag.old) (E.written diag.new) [] }
 
-    // A file that spells no automaton, or is too long, is refused as such, unless reading fails or memory runs out.
-    ensures syntax_due { (request : Request) (fs : List File) (place : ℕ) → request_of (map string_bytes words.now) ≡ Some request
-        → F.files files.old ≡ Some fs → IsRefused (Some fs) (files_of request) SpellsNone place
+    // A file that spells no automaton, is too long or passes a limit is refused as such, unless reading fails
+    // or memory runs out.
+    ensures syntax_due { (request : Request) (fs : List File) (place at : ℕ) → request_of (map string_bytes words.now) ≡ Some request
+        → F.files files.old ≡ Some fs → IsRefused (Some fs) (files_of request) (IsBadAt at) place
         → ¬ Rose (F.faults files.old) (F.faults files.new) → (result ≡ Status.Syntax) ⊎ (result ≡ Status.Memory) }
-    ensures limit_due { (request : Request) (fs : List File) (place : ℕ) → request_of (map string_bytes words.now) ≡ Some request
-        → F.files files.old ≡ Some fs → IsRefused (Some fs) (files_of request) IsTooLong place
+    ensures limit_due { (request : Request) (fs : List File) (line : List ℕ) → request_of (map string_bytes words.now) ≡ Some request
+        → F.files files.old ≡ Some fs → IsLimited (Some fs) (files_of request) line
         → ¬ Rose (F.faults files.old) (F.faults files.new) → (result ≡ Status.Limit) ⊎ (result ≡ Status.Memory) }
 
     // Where each file spells an automaton and nothing fails, the answer is written, unless memory runs out.
@@ -99,9 +109,12 @@ pub fn run<F: Files, K: Sink, E: Sink>(
         → ¬ Rose (F.faults files.old) (F.faults files.new) → ¬ Rose (K.faults out.old) (K.faults out.new)
         → IsAnswered result ⊎ (result ≡ Status.Memory) }
 {
-    let Some(name) = file_to_load(words) else {
-        tell_usage(diag);
-        return Status::Usage;
+    let name = match file_to_load(words) {
+        Ok(name) => name,
+        Err(untaken) => {
+            tell_untaken(diag, untaken);
+            return Status::Usage;
+        }
     };
     let text = match text_to_load(alloc, name, files) {
         Ok(text) => text,

@@ -4,17 +4,73 @@ ghost use Rattle.std.specs.Prelude.{◌≡◌, ◌≤◌, ◌++◌, IsTrue, IsFa
 ghost use Rattle.std.specs.Fmt.{decimal};
 ghost use Rattle.std.specs.Io.KnownBytes.{Appends};
 ghost use Rattle.vata_outside.specs.Outside.{AppendsPrefix, Rose};
-ghost use Rattle.vata_core.specs.Lines.{Tells, bad_text_line, bytes_line, memory_line, read_line, syntax_line, unknown_name_line, usage_line, write_line};
-ghost use Rattle.vata_core.specs.Refusals.{refusal_line, reason_line};
+ghost use Rattle.timbuk_text.specs.Taking.{limit_of};
+ghost use Rattle.vata_core.specs.Lines.{Tells, bytes_line, limit_line, limit_words, memory_line, name_line, read_line, syntax_line, write_line};
+ghost use Rattle.vata_core.specs.Refusals.{reason_line, refusal_line, untaken_line};
+ghost use Rattle.vata_core.specs.Usage.{fault_line, not_built_line};
 
 use crate::judging::Unjudged;
 use crate::loading::Refusal;
+use crate::words::Untaken;
 use itoa::Buffer;
+use timbuk_text::Counted;
 use vata_outside::{Sink, write_all_of};
+use vata_words::WordFault;
 
-#[tactic(auto, unfolding(crate::specs::Lines::usage_line))]
-fn usage() -> &'static [u8]
-    ensures { result.now ≡ usage_line }
+/// Writes a piece of a line, and answers whether it was written whole.
+fn put<E: Sink>(diag: &mut E, piece: &[u8]) -> bool
+    ensures whole { IsTrue result → Appends (E.written diag.old) (E.written diag.new) piece.now }
+    ensures cut { IsFalse result → AppendsPrefix (E.written diag.old) (E.written diag.new) piece.now
+        × Rose (E.faults diag.old) (E.faults diag.new) }
+    ensures later { E.faults diag.old ≤ E.faults diag.new }
+{
+    write_all_of(diag, piece).is_ok()
+}
+
+/// Writes a text and a number, and answers whether both were written whole.
+fn put_number<E: Sink>(diag: &mut E, front: &[u8], number: u64) -> bool
+    ensures whole { IsTrue result → Appends (E.written diag.old) (E.written diag.new) (front.now ++ decimal number) }
+    ensures cut { IsFalse result → AppendsPrefix (E.written diag.old) (E.written diag.new) (front.now ++ decimal number)
+        × Rose (E.faults diag.old) (E.faults diag.new) }
+    ensures later { E.faults diag.old ≤ E.faults diag.new }
+{
+    if !put(diag, front) {
+        return false;
+    }
+    let mut digits = Buffer::new();
+    put(diag, digits.format(number).as_bytes())
+}
+
+/// Writes a line, as far as it goes.
+fn tell<E: Sink>(diag: &mut E, line: &[u8])
+    ensures { Tells (E.written diag.old) (E.written diag.new) (E.faults diag.old) (E.faults diag.new) line.now }
+{
+    let _ = write_all_of(diag, line);
+}
+
+/// Writes a line that has a number between two texts, as far as it goes.
+fn tell_number<E: Sink>(diag: &mut E, front: &[u8], number: u64, back: &[u8])
+    ensures { Tells (E.written diag.old) (E.written diag.new) (E.faults diag.old) (E.faults diag.new) (front.now ++ decimal number ++ back.now) }
+{
+    if put_number(diag, front, number) {
+        tell(diag, back);
+    }
+}
+
+/// Writes a line that ends in a place of a file, as far as it goes.
+fn tell_place<E: Sink>(diag: &mut E, front: &[u8], number: u64, middle: &[u8], at: u64, back: &[u8])
+    ensures { Tells (E.written diag.old) (E.written diag.new) (E.faults diag.old) (E.faults diag.new)
+        (front.now ++ decimal number ++ middle.now ++ decimal at ++ back.now) }
+{
+    if !put_number(diag, front, number) {
+        return;
+    }
+    tell_number(diag, middle, at, back);
+}
+
+#[tactic(auto, unfolding(crate::specs::Usage::not_built_line))]
+fn not_built() -> &'static [u8]
+    ensures { result.now ≡ not_built_line }
 {
     b"usage: not built yet\n".as_slice()
 }
@@ -33,41 +89,63 @@ fn memory() -> &'static [u8]
     b"memory\n".as_slice()
 }
 
-/// Writes a piece of a line, and answers whether it was written whole.
-fn put<E: Sink>(diag: &mut E, piece: &[u8]) -> bool
-    ensures whole { IsTrue result → Appends (E.written diag.old) (E.written diag.new) piece.now }
-    ensures cut { IsFalse result → AppendsPrefix (E.written diag.old) (E.written diag.new) piece.now
-        × Rose (E.faults diag.old) (E.faults diag.new) }
-    ensures later { E.faults diag.old ≤ E.faults diag.new }
+/// What stands between a file's number and the place where it passes the limit.
+#[tactic(auto, unfolding(crate::specs::Lines::limit_words))]
+fn words_of(what: Counted) -> &'static [u8]
+    ensures { result.now ≡ limit_words (limit_of what) }
 {
-    write_all_of(diag, piece).is_ok()
-}
-
-/// Writes a line, as far as it goes.
-fn tell<E: Sink>(diag: &mut E, line: &[u8])
-    ensures { Tells (E.written diag.old) (E.written diag.new) (E.faults diag.old) (E.faults diag.new) line.now }
-{
-    let _ = write_all_of(diag, line);
-}
-
-/// Writes a line that has a number between two texts, as far as it goes.
-fn tell_number<E: Sink>(diag: &mut E, front: &[u8], number: u64, back: &[u8])
-    ensures { Tells (E.written diag.old) (E.written diag.new) (E.faults diag.old) (E.faults diag.new) (front.now ++ decimal number ++ back.now) }
-{
-    if !put(diag, front) {
-        return;
+    match what {
+        Counted::Names => b" names at ".as_slice(),
+        Counted::Rank => b" rank at ".as_slice(),
+        Counted::Symbols => b" symbols at ".as_slice(),
+        Counted::States => b" states at ".as_slice(),
+        Counted::Rules => b" rules at ".as_slice(),
     }
-    let mut digits = Buffer::new();
-    if !put(diag, digits.format(number).as_bytes()) {
-        return;
-    }
-    tell(diag, back);
 }
 
-pub fn tell_usage<E: Sink>(diag: &mut E)
-    ensures { Tells (E.written diag.old) (E.written diag.new) (E.faults diag.old) (E.faults diag.new) usage_line }
+/// Tells what is wrong with the words.
+pub fn tell_fault<E: Sink>(diag: &mut E, fault: WordFault)
+    ensures { Tells (E.written diag.old) (E.written diag.new) (E.faults diag.old) (E.faults diag.new) (fault_line fault) }
 {
-    tell(diag, usage());
+    match fault {
+        WordFault::NoCommand => tell(diag, b"usage: no command\n"),
+        WordFault::UnknownWord { at } => tell_number(
+            diag,
+            b"usage: unknown word ",
+            at as u64,
+            b"\n",
+        ),
+        WordFault::Repeated { at } => tell_number(diag, b"usage: repeated ", at as u64, b"\n"),
+        WordFault::MissingValue { at } => tell_number(
+            diag,
+            b"usage: missing value ",
+            at as u64,
+            b"\n",
+        ),
+        WordFault::BadSetting { at } => tell_number(diag, b"usage: bad setting ", at as u64, b"\n"),
+        WordFault::NotForThis { at } => tell_number(
+            diag,
+            b"usage: not for this command ",
+            at as u64,
+            b"\n",
+        ),
+        WordFault::FileCount { found } => tell_number(
+            diag,
+            b"usage: wrong number of files ",
+            found as u64,
+            b"\n",
+        ),
+    }
+}
+
+/// Tells why the words are not taken.
+pub fn tell_untaken<E: Sink>(diag: &mut E, untaken: Untaken)
+    ensures { Tells (E.written diag.old) (E.written diag.new) (E.faults diag.old) (E.faults diag.new) (untaken_line untaken) }
+{
+    match untaken {
+        Untaken::NotBuilt => tell(diag, not_built()),
+        Untaken::Fault(fault) => tell_fault(diag, fault),
+    }
 }
 
 pub fn tell_write_fault<E: Sink>(diag: &mut E)
@@ -77,7 +155,6 @@ pub fn tell_write_fault<E: Sink>(diag: &mut E)
 }
 
 /// Tells that the file at a place, which counts from 0, can't be read.
-#[tactic(auto, unfolding(crate::specs::Lines::read_line))]
 fn tell_read_fault<E: Sink>(diag: &mut E, place: u8)
     ensures { Tells (E.written diag.old) (E.written diag.new) (E.faults diag.old) (E.faults diag.new) (read_line place) }
 {
@@ -92,12 +169,32 @@ fn tell_too_long<E: Sink>(diag: &mut E, place: u8)
     tell_number(diag, b"limit: file ", u64::from(place) + 1, b" bytes\n");
 }
 
-/// Tells that the file at a place is no automaton's text.
-#[tactic(auto, unfolding(crate::specs::Lines::syntax_line))]
-fn tell_syntax<E: Sink>(diag: &mut E, place: u8)
-    ensures { Tells (E.written diag.old) (E.written diag.new) (E.faults diag.old) (E.faults diag.new) (syntax_line place) }
+/// Tells where the file at a place isn't as it has to be.
+fn tell_syntax<E: Sink>(diag: &mut E, place: u8, at: u64)
+    ensures { Tells (E.written diag.old) (E.written diag.new) (E.faults diag.old) (E.faults diag.new) (syntax_line place at) }
 {
-    tell_number(diag, b"syntax: file ", u64::from(place) + 1, b"\n");
+    tell_place(
+        diag,
+        b"syntax: file ",
+        u64::from(place) + 1,
+        b" at ",
+        at,
+        b"\n",
+    );
+}
+
+/// Tells where the file at a place passes a limit.
+fn tell_limit<E: Sink>(diag: &mut E, place: u8, what: Counted, at: u64)
+    ensures { Tells (E.written diag.old) (E.written diag.new) (E.faults diag.old) (E.faults diag.new) (limit_line place (limit_of what) at) }
+{
+    tell_place(
+        diag,
+        b"limit: file ",
+        u64::from(place) + 1,
+        words_of(what),
+        at,
+        b"\n",
+    );
 }
 
 /// Tells why the file at a place, which counts from 0, gives no automaton.
@@ -107,21 +204,15 @@ pub fn tell_refusal<E: Sink>(diag: &mut E, place: u8, refusal: Refusal)
     match refusal {
         Refusal::ReadFault => tell_read_fault(diag, place),
         Refusal::TooLong => tell_too_long(diag, place),
-        Refusal::Syntax => tell_syntax(diag, place),
+        Refusal::Syntax { at } => tell_syntax(diag, place, at),
+        Refusal::Limit { what, at } => tell_limit(diag, place, what, at),
         Refusal::Memory => tell(diag, memory()),
     }
 }
 
-#[tactic(auto, unfolding(crate::specs::Lines::bad_text_line))]
-fn tell_bad_text<E: Sink>(diag: &mut E, at: u64)
-    ensures { Tells (E.written diag.old) (E.written diag.new) (E.faults diag.old) (E.faults diag.new) (bad_text_line at) }
-{
-    tell_number(diag, b"syntax: file 3 at ", at, b"\n");
-}
-
-#[tactic(auto, unfolding(crate::specs::Lines::unknown_name_line))]
-fn tell_unknown_name<E: Sink>(diag: &mut E, at: u64)
-    ensures { Tells (E.written diag.old) (E.written diag.new) (E.faults diag.old) (E.faults diag.new) (unknown_name_line at) }
+#[tactic(auto, unfolding(crate::specs::Lines::name_line))]
+fn tell_name<E: Sink>(diag: &mut E, at: u64)
+    ensures { Tells (E.written diag.old) (E.written diag.new) (E.faults diag.old) (E.faults diag.new) (name_line at) }
 {
     tell_number(diag, b"name: file 3 at ", at, b"\n");
 }
@@ -132,7 +223,7 @@ pub fn tell_reason<E: Sink>(diag: &mut E, reason: Unjudged)
 {
     match reason {
         Unjudged::File { place, refusal } => tell_refusal(diag, place, refusal),
-        Unjudged::BadText { at } => tell_bad_text(diag, at),
-        Unjudged::UnknownName { at } => tell_unknown_name(diag, at),
+        Unjudged::BadText { at } => tell_syntax(diag, 2, at),
+        Unjudged::UnknownName { at } => tell_name(diag, at),
     }
 }

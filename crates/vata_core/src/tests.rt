@@ -154,46 +154,74 @@ fn load_answers_each_file(rt: HostRuntime) -> Result<(), AllocError> {
             b"".as_slice(),
         ),
         (
+            "no symbol, state or rule, on one line",
+            b"Ops Automaton e States Final States Transitions".as_slice(),
+            Status::Done,
+            b"Ops\nAutomaton e\nStates\nFinal States\nTransitions\n".as_slice(),
+            b"".as_slice(),
+        ),
+        (
+            "a leaf with brackets, digits behind a state, a rule twice",
+            b"Ops Automaton x States Final States q0 Transitions a()->q0 a -> q0:0".as_slice(),
+            Status::Done,
+            b"Ops a:0\nAutomaton x\nStates q0\nFinal States q0\nTransitions\na -> q0\n".as_slice(),
+            b"".as_slice(),
+        ),
+        (
+            "one name under two ranks, on one line",
+            b"Ops a:0 a:2 Automaton two States q Final States q Transitions a(q,q) -> q a -> q".as_slice(),
+            Status::Done,
+            b"Ops a:0 a:2\nAutomaton two\nStates q\nFinal States q\nTransitions\na -> q\na(q,q) -> q\n".as_slice(),
+            b"".as_slice(),
+        ),
+        (
+            "a file as users write it",
+            b"Ops nil:0 cons:2 zero:0 succ:1\n\nAutomaton lists\nStates q0:0 q1:0 q2:0\nFinal States q2\nTransitions\nnil() -> q2\nzero() -> q0\nsucc(q0) -> q1\nsucc(q1) -> q0\ncons(q0,q2) -> q2\n".as_slice(),
+            Status::Done,
+            b"Ops nil:0 cons:2 zero:0 succ:1\nAutomaton lists\nStates q0 q1 q2\nFinal States q2\nTransitions\nzero -> q0\nsucc(q1) -> q0\nsucc(q0) -> q1\nnil -> q2\ncons(q0,q2) -> q2\n".as_slice(),
+            b"".as_slice(),
+        ),
+        (
+            "a name that ends in a dash before an arrow",
+            b"Ops Automaton d States Final States q Transitions a-->q".as_slice(),
+            Status::Done,
+            b"Ops a-:0\nAutomaton d\nStates q\nFinal States q\nTransitions\na- -> q\n".as_slice(),
+            b"".as_slice(),
+        ),
+        (
+            "no name",
+            b"Ops Automaton States Final States Transitions".as_slice(),
+            Status::Done,
+            b"Ops\nAutomaton anonymous\nStates\nFinal States\nTransitions\n".as_slice(),
+            b"".as_slice(),
+        ),
+        (
             "a rule cut off",
             b"Ops a:0 f:2\nAutomaton all\nStates q\nFinal States q\nTransitions\na -> q\nf(q,".as_slice(),
             Status::Syntax,
             b"".as_slice(),
-            b"syntax: file 1\n".as_slice(),
+            b"syntax: file 1 at 73\n".as_slice(),
         ),
         (
-            "the last line feed missing",
-            b"Ops\nAutomaton e\nStates\nFinal States\nTransitions".as_slice(),
-            Status::Syntax,
+            "a rank of 33",
+            b"Ops a:33 Automaton x States Final States Transitions".as_slice(),
+            Status::Limit,
             b"".as_slice(),
-            b"syntax: file 1\n".as_slice(),
-        ),
-        (
-            "a rule twice",
-            b"Ops a:0\nAutomaton x\nStates q\nFinal States q\nTransitions\na -> q\na -> q\n".as_slice(),
-            Status::Syntax,
-            b"".as_slice(),
-            b"syntax: file 1\n".as_slice(),
-        ),
-        (
-            "a rank with a leading zero",
-            b"Ops a:00\nAutomaton x\nStates q\nFinal States q\nTransitions\na -> q\n".as_slice(),
-            Status::Syntax,
-            b"".as_slice(),
-            b"syntax: file 1\n".as_slice(),
+            b"limit: file 1 rank at 6\n".as_slice(),
         ),
         (
             "no byte",
             b"".as_slice(),
             Status::Syntax,
             b"".as_slice(),
-            b"syntax: file 1\n".as_slice(),
+            b"syntax: file 1 at 0\n".as_slice(),
         ),
         (
             "a byte past ASCII",
             b"\x80".as_slice(),
             Status::Syntax,
             b"".as_slice(),
-            b"syntax: file 1\n".as_slice(),
+            b"syntax: file 1 at 0\n".as_slice(),
         ),
     ] {
         let ran = run_over(
@@ -214,11 +242,25 @@ fn load_answers_each_file(rt: HostRuntime) -> Result<(), AllocError> {
 #[test]
 fn words_that_are_not_taken(rt: HostRuntime) -> Result<(), AllocError> {
     let alloc = rt.alloc();
-    for words in ["", "load", "lod file", "load -p", "load file file"] {
+    for (words, line) in [
+        ("", b"usage: no command\n".as_slice()),
+        ("load -r", b"usage: missing value 2\n".as_slice()),
+        ("lod file", b"usage: unknown word 1\n".as_slice()),
+        ("-p sim file", b"usage: not for this command 1\n".as_slice()),
+        ("incl file", b"usage: wrong number of files 1\n".as_slice()),
+        (
+            "incl -o budget=0 file file",
+            b"usage: bad setting 3\n".as_slice(),
+        ),
+        ("-p -p load file", b"usage: repeated 2\n".as_slice()),
+        ("bench 0", b"usage: bad setting 2\n".as_slice()),
+        ("load -p file", b"usage: not built yet\n".as_slice()),
+        ("union file file", b"usage: not built yet\n".as_slice()),
+    ] {
         let ran = run_over(alloc, words, ALL, 1_000, Vec::new(alloc), Vec::new(alloc))?;
-        assert_eq!(rt; ran.status, Status::Usage);
-        assert_eq!(rt; ran.out.bytes(), b"".as_slice());
-        assert_eq!(rt; ran.diag.bytes(), b"usage: not built yet\n".as_slice());
+        assert_eq!(rt; ran.status, Status::Usage, "{words}");
+        assert_eq!(rt; ran.out.bytes(), b"".as_slice(), "{words}");
+        assert_eq!(rt; ran.diag.bytes(), line, "{words}");
     }
     Ok(())
 }
@@ -265,9 +307,21 @@ fn faults_are_told(rt: HostRuntime) -> Result<(), AllocError> {
 }
 
 #[test]
-fn a_file_too_long(rt: HostRuntime) -> Result<(), AllocError> {
+fn a_file_as_long_as_may_be_and_one_byte_longer(rt: HostRuntime) -> Result<(), AllocError> {
     let alloc = rt.alloc();
-    let file = spaces(alloc, 33_554_433)?;
+    let mut file = Vec::from_slice(alloc, b"Ops Automaton e States Final States Transitions")?;
+    file.extend_from_slice(&spaces(alloc, 33_554_432 - 47)?)?;
+    let ran = run_over(
+        alloc,
+        "load file",
+        &file,
+        1_000,
+        Vec::new(alloc),
+        Vec::new(alloc),
+    )?;
+    assert_eq!(rt; ran.status, Status::Done);
+    assert_eq!(rt; ran.out.bytes(), EMPTY);
+    file.push(b' ')?;
     let ran = run_over(
         alloc,
         "load file",
@@ -346,7 +400,7 @@ fn certificates_are_judged(rt: HostRuntime) -> Result<(), AllocError> {
             b"".as_slice(),
             4,
             b"".as_slice(),
-            b"syntax: file 2\n".as_slice(),
+            b"syntax: file 2 at 0\n".as_slice(),
         ),
         (
             "no first automaton",
@@ -355,7 +409,7 @@ fn certificates_are_judged(rt: HostRuntime) -> Result<(), AllocError> {
             b"".as_slice(),
             4,
             b"".as_slice(),
-            b"syntax: file 1\n".as_slice(),
+            b"syntax: file 1 at 0\n".as_slice(),
         ),
     ] {
         let ran = check_over(
@@ -403,7 +457,7 @@ fn faults_of_a_check_are_told(rt: HostRuntime) -> Result<(), AllocError> {
             0,
             2,
             b"".as_slice(),
-            b"usage: not built yet\n".as_slice(),
+            b"usage: wrong number of files 2\n".as_slice(),
         ),
         (
             "a -b c",
@@ -411,7 +465,7 @@ fn faults_of_a_check_are_told(rt: HostRuntime) -> Result<(), AllocError> {
             0,
             2,
             b"".as_slice(),
-            b"usage: not built yet\n".as_slice(),
+            b"usage: unknown word 2\n".as_slice(),
         ),
         (
             "a b d",

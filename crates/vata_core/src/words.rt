@@ -1,45 +1,55 @@
 //! The words of a command line.
 
-ghost use Rattle.std.specs.Prelude.{◌≡◌, map, string_bytes};
-ghost use Rattle.std.specs.Option.{option_map};
-ghost use Rattle.vata_core.specs.CheckRequest.{check_request_of};
-ghost use Rattle.vata_core.specs.Request.{Load, begins_with_dash, request_of};
+ghost use Rattle.std.specs.Prelude.{◌≡◌, map, string_bytes, Some, None, IfOk, IfErr};
+ghost use Rattle.vata_core.specs.CheckRequest.{check_request_of, check_usage_line};
+ghost use Rattle.vata_core.specs.Request.{Load, request_of, usage_line};
+ghost use Rattle.vata_core.specs.Refusals.{untaken_line};
+ghost use Rattle.vata_core.specs.Usage.{fault_line};
 
-/// The file that `load FILE` names. Takes no memory.
-#[tactic(auto, unfolding(crate::specs::Request::request_of))]
-pub fn file_to_load(words: &[String]) -> Option<&str>
-    ensures { option_map (λ name. Load name.now) result ≡ request_of (map string_bytes words.now) }
-{
-    let [command, file] = words else {
-        return None;
-    };
-    if command.as_str() != "load" {
-        return None;
-    }
-    if has_dash(file) {
-        return None;
-    }
-    Some(file.as_str())
+use vata_words::{Encoding, Request, WordFault};
+
+/// Why words are not taken.
+#[derive(Clone, Copy, Debug, PartialEq, Eq)]
+pub enum Untaken {
+    /// They ask for what isn't built.
+    NotBuilt,
+    Fault(WordFault),
 }
 
-/// Whether the word begins with a dash.
-fn has_dash(word: &str) -> bool
-    ensures { result ≡ begins_with_dash word.now }
+/// The file that is to be loaded. Takes no memory.
+#[tactic(auto, unfolding(crate::specs::Request::request_of, crate::specs::Request::usage_line))]
+pub fn file_to_load(words: &[String]) -> Result<&str, Untaken>
+    ensures ok { IfOk result (λ name. request_of (map string_bytes words.now) ≡ Some (Load name.now)) }
+    ensures err { IfErr result (λ untaken. (request_of (map string_bytes words.now) ≡ None)
+        × (usage_line (map string_bytes words.now) ≡ untaken_line untaken)) }
 {
-    word.as_bytes().first() == Some(&b'-')
+    match vata_words::request_of(words) {
+        Ok(
+            Request::Load {
+                encoding: Encoding::Expl,
+                trim: false,
+                file,
+            },
+        ) => Ok(words[file].as_str()),
+        Ok(_) => Err(Untaken::NotBuilt),
+        Err(fault) => Err(Untaken::Fault(fault)),
+    }
 }
 
-/// The files that `FIRST SECOND CERTIFICATE` name. Takes no memory.
-#[tactic(auto, unfolding(crate::specs::CheckRequest::check_request_of))]
-pub fn files_to_check(words: &[String]) -> Option<(&str, &str, &str)>
-    ensures { option_map (λ n. record { first = n.0.now; second = n.1.now; certificate = n.2.now }) result
-        ≡ check_request_of (map string_bytes words.now) }
+/// The files of a check. Takes no memory.
+#[tactic(auto, unfolding(crate::specs::CheckRequest::check_request_of, crate::specs::CheckRequest::check_usage_line))]
+pub fn files_to_check(words: &[String]) -> Result<(&str, &str, &str), WordFault>
+    ensures ok { IfOk result (λ n. check_request_of (map string_bytes words.now)
+        ≡ Some (record { first = n.0.now; second = n.1.now; certificate = n.2.now })) }
+    ensures err { IfErr result (λ fault. (check_request_of (map string_bytes words.now) ≡ None)
+        × (check_usage_line (map string_bytes words.now) ≡ fault_line fault)) }
 {
-    let [first, second, certificate] = words else {
-        return None;
-    };
-    if has_dash(first) || has_dash(second) || has_dash(certificate) {
-        return None;
+    match vata_words::check_request_of(words) {
+        Ok(asked) => Ok((
+            words[asked.first].as_str(),
+            words[asked.second].as_str(),
+            words[asked.certificate].as_str(),
+        )),
+        Err(fault) => Err(fault),
     }
-    Some((first.as_str(), second.as_str(), certificate.as_str()))
 }

@@ -1,6 +1,6 @@
 use Rattle.std.proofs.Common.{◌≡◌, ◌++◌, take}
 use Rattle.std.specs.List.{flat_map}
-use Rattle.timbuk_text.specs.Text.{blank, name_at}
+use Rattle.timbuk_definitions.specs.Printed.{blank, name_at}
 use Rattle.timbuk_text.proofs.printer.put_blanks.Given as goal
 
 abbrev pub invariant-loop-place : goal.invariant-loop-place

@@ -1,6 +1,6 @@
 use Rattle.std.proofs.Common.{◌≡◌, ◌++◌, take}
 use Rattle.std.specs.List.{flat_map}
-use Rattle.timbuk_text.specs.Text.{rule_text}
+use Rattle.timbuk_definitions.specs.Printed.{rule_text}
 use Rattle.timbuk_text.proofs.printer.put_lines.Given as goal
 
 abbrev pub invariant-loop-rule : goal.invariant-loop-rule

@@ -4,44 +4,73 @@ use Rattle.vata_core.specs.CheckRequest.{CheckRequest, automata_of}
 use Rattle.vata_core.specs.Files.{AreSpelled, Told}
 use Rattle.vata_core.specs.Judgement.{HasJudgement, IsCertificateOf}
 use Rattle.vata_core.specs.Lines.{Tells}
-use Rattle.vata_core.specs.NoCertificate.{IsFaulty}
+use Rattle.vata_core.specs.NoCertificate.{IsBeyond, IsFaulty}
 use Rattle.vata_core.specs.Refusals.{IsUnjudged, reason_line, reason_status}
 use Rattle.vata_core.specs.declared.status.Status.TheVariants as status
-use Rattle.vata_core.proofs.Reasons.{faulty, faulty_or_good, nothing_wrong, one_request, syntax_due}
+use Rattle.vata_core.proofs.Reasons.{beyond, beyond_or_good, faulty, faulty_or_good, limit_due, nothing_wrong, one_request, syntax_due}
 use Rattle.vata_core.proofs.checking.check_run.Goals as goal
 
-pub returns-in-Err-clause-syntax : goal.returns-in-Err-clause-syntax
-returns-in-Err-clause-syntax g c = λ e.
+pub returns-in-Err-judgement_of-clause-syntax : goal.returns-in-Err-judgement_of-clause-syntax
+returns-in-Err-judgement_of-clause-syntax g c = λ e.
     subst (λ asked. IfSome asked (λ request. (line : List ℕ) × IsFaulty (g.F.Files.files c.args.files.now) request line
     × Tells (g.E.Sink.written c.args.diag.now) (g.E.Sink.written c.tell_reason.new.diag) (g.E.Sink.faults c.args.diag.now) (g.E.Sink.faults c.tell_reason.new.diag) line))
-    c.in-Some.ensures
-    (reason_line c.in-Err.reason, faulty _ _ _ _ c.in-Err.reason (sym c.unjudged.ensures ∙ e) c.in-Err.ensures.err, c.tell_reason.ensures)
+    (sym c.in-Ok.ensures.ok)
+    (reason_line c.in-Err-judgement_of.reason, faulty _ _ _ _ c.in-Err-judgement_of.reason (sym c.unjudged.ensures ∙ e) c.in-Err-judgement_of.ensures.err, c.tell_reason.ensures)
 
-pub returns-in-Err-clause-syntax_due : goal.returns-in-Err-clause-syntax_due
-returns-in-Err-clause-syntax_due g c = λ request fs line asked told fault calm.
+pub returns-in-Err-judgement_of-clause-syntax_due : goal.returns-in-Err-judgement_of-clause-syntax_due
+returns-in-Err-judgement_of-clause-syntax_due g c = λ request fs line asked told fault calm.
     subst (λ s. (s ≡ status.Syntax) ⊎ (s ≡ status.Memory)) (sym c.unjudged.ensures)
-    (syntax_due fs request line _ _ c.in-Err.reason fault calm
-    (subst (λ files. IsUnjudged files request (g.F.Files.faults c.args.files.now) (g.F.Files.faults c.judgement_of.new.files) c.in-Err.reason) told
-    (subst (λ r. IsUnjudged (g.F.Files.files c.args.files.now) r (g.F.Files.faults c.args.files.now) (g.F.Files.faults c.judgement_of.new.files) c.in-Err.reason)
-    (one_request _ _ request c.in-Some.ensures asked) c.in-Err.ensures.err)))
+    (syntax_due fs request line _ _ c.in-Err-judgement_of.reason fault calm
+    (subst (λ files. IsUnjudged files request (g.F.Files.faults c.args.files.now) (g.F.Files.faults c.judgement_of.new.files) c.in-Err-judgement_of.reason) told
+    (subst (λ r. IsUnjudged (g.F.Files.files c.args.files.now) r (g.F.Files.faults c.args.files.now) (g.F.Files.faults c.judgement_of.new.files) c.in-Err-judgement_of.reason)
+    (one_request _ _ request (sym c.in-Ok.ensures.ok) asked) c.in-Err-judgement_of.ensures.err)))
 
-pub returns-in-Err-clause-complete : goal.returns-in-Err-clause-complete
-returns-in-Err-clause-complete g c = λ request fs A B d asked told spelled written calm _.
-    inr (c.unjudged.ensures ∙ nothing_wrong fs request _ _ c.in-Err.reason A B d spelled written calm
-    (subst (λ files. IsUnjudged files request (g.F.Files.faults c.args.files.now) (g.F.Files.faults c.judgement_of.new.files) c.in-Err.reason) told
-    (subst (λ r. IsUnjudged (g.F.Files.files c.args.files.now) r (g.F.Files.faults c.args.files.now) (g.F.Files.faults c.judgement_of.new.files) c.in-Err.reason)
-    (one_request _ _ request c.in-Some.ensures asked) c.in-Err.ensures.err)))
+pub returns-in-Err-judgement_of-clause-complete : goal.returns-in-Err-judgement_of-clause-complete
+returns-in-Err-judgement_of-clause-complete g c = λ request fs A B d asked told spelled written calm _.
+    inr (c.unjudged.ensures ∙ nothing_wrong fs request _ _ c.in-Err-judgement_of.reason A B d spelled written calm
+    (subst (λ files. IsUnjudged files request (g.F.Files.faults c.args.files.now) (g.F.Files.faults c.judgement_of.new.files) c.in-Err-judgement_of.reason) told
+    (subst (λ r. IsUnjudged (g.F.Files.files c.args.files.now) r (g.F.Files.faults c.args.files.now) (g.F.Files.faults c.judgement_of.new.files) c.in-Err-judgement_of.reason)
+    (one_request _ _ request (sym c.in-Ok.ensures.ok) asked) c.in-Err-judgement_of.ensures.err)))
 
 pub returns-in-Ok-write_all_of-clause-syntax_due : goal.returns-in-Ok-write_all_of-clause-syntax_due
 returns-in-Ok-write_all_of-clause-syntax_due g c = λ request fs line asked told fault calm.
-    let right : HasJudgement (Some fs) request c.in-Ok.judgement =
-    subst (λ files. HasJudgement files request c.in-Ok.judgement) told
-    (subst (λ r. HasJudgement (g.F.Files.files c.args.files.now) r c.in-Ok.judgement) (one_request _ _ request c.in-Some.ensures asked) c.in-Ok.ensures.ok) in
+    let right : HasJudgement (Some fs) request c.in-Ok-judgement_of.judgement =
+    subst (λ files. HasJudgement files request c.in-Ok-judgement_of.judgement) told
+    (subst (λ r. HasJudgement (g.F.Files.files c.args.files.now) r c.in-Ok-judgement_of.judgement) (one_request _ _ request (sym c.in-Ok.ensures.ok) asked) c.in-Ok-judgement_of.ensures.ok) in
     absurd (faulty_or_good fs request line right.first right.second right.certificate fault right.spelled right.written)
 
 pub returns-clause-syntax_due : goal.returns-clause-syntax_due
 returns-clause-syntax_due g c = λ request fs line asked told fault calm.
-    let right : HasJudgement (Some fs) request c.in-Ok.judgement =
-    subst (λ files. HasJudgement files request c.in-Ok.judgement) told
-    (subst (λ r. HasJudgement (g.F.Files.files c.args.files.now) r c.in-Ok.judgement) (one_request _ _ request c.in-Some.ensures asked) c.in-Ok.ensures.ok) in
+    let right : HasJudgement (Some fs) request c.in-Ok-judgement_of.judgement =
+    subst (λ files. HasJudgement files request c.in-Ok-judgement_of.judgement) told
+    (subst (λ r. HasJudgement (g.F.Files.files c.args.files.now) r c.in-Ok-judgement_of.judgement) (one_request _ _ request (sym c.in-Ok.ensures.ok) asked) c.in-Ok-judgement_of.ensures.ok) in
     absurd (faulty_or_good fs request line right.first right.second right.certificate fault right.spelled right.written)
+
+pub returns-in-Err-judgement_of-clause-limit : goal.returns-in-Err-judgement_of-clause-limit
+returns-in-Err-judgement_of-clause-limit g c = λ e.
+    subst (λ asked. IfSome asked (λ request. (line : List ℕ) × IsBeyond (g.F.Files.files c.args.files.now) request line
+    × Tells (g.E.Sink.written c.args.diag.now) (g.E.Sink.written c.tell_reason.new.diag) (g.E.Sink.faults c.args.diag.now) (g.E.Sink.faults c.tell_reason.new.diag) line))
+    (sym c.in-Ok.ensures.ok)
+    (reason_line c.in-Err-judgement_of.reason, beyond _ _ _ _ c.in-Err-judgement_of.reason (sym c.unjudged.ensures ∙ e) c.in-Err-judgement_of.ensures.err, c.tell_reason.ensures)
+
+pub returns-in-Err-judgement_of-clause-limit_due : goal.returns-in-Err-judgement_of-clause-limit_due
+returns-in-Err-judgement_of-clause-limit_due g c = λ request fs line asked told fault calm.
+    subst (λ s. (s ≡ status.Limit) ⊎ (s ≡ status.Memory)) (sym c.unjudged.ensures)
+    (limit_due fs request line _ _ c.in-Err-judgement_of.reason fault calm
+    (subst (λ files. IsUnjudged files request (g.F.Files.faults c.args.files.now) (g.F.Files.faults c.judgement_of.new.files) c.in-Err-judgement_of.reason) told
+    (subst (λ r. IsUnjudged (g.F.Files.files c.args.files.now) r (g.F.Files.faults c.args.files.now) (g.F.Files.faults c.judgement_of.new.files) c.in-Err-judgement_of.reason)
+    (one_request _ _ request (sym c.in-Ok.ensures.ok) asked) c.in-Err-judgement_of.ensures.err)))
+
+pub returns-in-Ok-write_all_of-clause-limit_due : goal.returns-in-Ok-write_all_of-clause-limit_due
+returns-in-Ok-write_all_of-clause-limit_due g c = λ request fs line asked told fault calm.
+    let right : HasJudgement (Some fs) request c.in-Ok-judgement_of.judgement =
+    subst (λ files. HasJudgement files request c.in-Ok-judgement_of.judgement) told
+    (subst (λ r. HasJudgement (g.F.Files.files c.args.files.now) r c.in-Ok-judgement_of.judgement) (one_request _ _ request (sym c.in-Ok.ensures.ok) asked) c.in-Ok-judgement_of.ensures.ok) in
+    absurd (beyond_or_good fs request line right.first right.second right.certificate fault right.spelled right.written)
+
+pub returns-clause-limit_due : goal.returns-clause-limit_due
+returns-clause-limit_due g c = λ request fs line asked told fault calm.
+    let right : HasJudgement (Some fs) request c.in-Ok-judgement_of.judgement =
+    subst (λ files. HasJudgement files request c.in-Ok-judgement_of.judgement) told
+    (subst (λ r. HasJudgement (g.F.Files.files c.args.files.now) r c.in-Ok-judgement_of.judgement) (one_request _ _ request (sym c.in-Ok.ensures.ok) asked) c.in-Ok-judgement_of.ensures.ok) in
+    absurd (beyond_or_good fs request line right.first right.second right.certificate fault right.spelled right.written)

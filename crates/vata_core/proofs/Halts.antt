@@ -1,0 +1,181 @@
+-- Why a run over files of automata has no answer, and what that excludes.
+use Rattle.std.proofs.Common.{◌≡◌, ◌⊎◌, ℕ, zero, suc, ◌<◌, ◌≤◌, List, [], ◌∷◌, length, Some, None, inl, inr, refl, sym, ap, ◌∙◌, subst, arith, IfSome}
+use Rattle.std.specs.Prelude.{take, slice_get, unwrap_or}
+use Rattle.std.specs.declared.option.Option.{Option}
+use Rattle.std.specs.List.{AllZip}
+use Rattle.std.proofs.lemmas.Bool.{cases_order}
+use Rattle.vata_outside.specs.Outside.{File, IsMissing, Rose, Selects, bytes_of}
+use Rattle.tree_definitions.specs.Automaton.{Automaton}
+use Rattle.tree_definitions.specs.Relation.{IsAt}
+use Rattle.timbuk_definitions.specs.Place.{Limit as Count}
+use Rattle.timbuk_text.specs.declared.error.Counted.{Counted}
+use Rattle.timbuk_text.specs.Taking.{limit_of}
+use Rattle.vata_core.specs.Files.{AreSpelled, ComesTo, IsBadAt, IsFileOf, IsOverAt, IsRefused, IsSpelled, IsTooLong, Told}
+use Rattle.vata_core.specs.Outcome.{FailsToRead, IsLimited, TooLong, Over}
+use Rattle.vata_core.specs.Refusals.{IsHalted, refusal_line, refusal_status}
+use Rattle.vata_core.specs.declared.loading.Refusal.{Refusal}
+use Rattle.vata_core.specs.declared.loading.Refusal.TheVariants as refusal
+use Rattle.vata_core.specs.declared.status.Status.TheVariants as status
+use Rattle.vata_core.proofs.Walk.{IsBad, IsOver, bad_not_over, bad_not_spelled, long_not_spelled, over_not_spelled, told_so}
+
+-- what holds of all that was read holds of the file of that name
+pub told_read : (files : Option (List File)) (name text : List ℕ) (left : Option (List ℕ)) (P : List ℕ → Type 0) → Selects files name left → IfSome left (λ bytes. text ≡ bytes) → P text → Told files name P
+told_read None name text left P s r p = tt
+told_read (Some fs) name text left P s r p = (s.0, s.1, subst P (subst (λ l. IfSome l (λ bytes. text ≡ bytes)) s.2 r) p)
+
+-- why the only file gives no automaton
+pub only_file : (files : Option (List File)) (name : List ℕ) (before now : ℕ) (r : Refusal)
+    → ((at : ℕ) → r ≡ refusal.Syntax at → Told files name (IsBadAt at))
+    → ((what : Counted) (at : ℕ) → r ≡ refusal.Limit what at → Told files name (IsOverAt (limit_of what) at))
+    → (r ≡ refusal.TooLong → Told files name IsTooLong)
+    → (r ≡ refusal.ReadFault → Rose before now ⊎ IsMissing files name)
+    → IsHalted files (name ∷ []) before now 0 r
+only_file files name before now refusal.ReadFault s l t f = record { name = name; first = record { stands = refl; before = ([], tt) }; cause = f refl }
+only_file files name before now refusal.TooLong s l t f = record { name = name; first = record { stands = refl; before = ([], tt) }; reason = t refl }
+only_file files name before now (refusal.Syntax at) s l t f = record { name = name; first = record { stands = refl; before = ([], tt) }; reason = s at refl }
+only_file files name before now (refusal.Limit what at) s l t f = record { name = name; first = record { stands = refl; before = ([], tt) }; reason = l what at refl }
+only_file files name before now refusal.Memory s l t f = tt
+
+-- what ends with status Limit is beyond a limit, and its line is told
+pub limited : (files : Option (List File)) (names : List (List ℕ)) (before now place : ℕ) (r : Refusal) → refusal_status r ≡ status.Limit → IsHalted files names before now place r
+    → IsLimited files names (refusal_line r place)
+limited files names before now place refusal.ReadFault e h = cc e
+limited files names before now place refusal.TooLong e h = TooLong place h
+limited files names before now place (refusal.Syntax at) e h = cc e
+limited files names before now place (refusal.Limit what at) e h = Over place (limit_of what) at h
+limited files names before now place refusal.Memory e h = cc e
+
+module _ (fs : List File) where
+  spelled_before : (names : List (List ℕ)) (As : List Automaton) (p q : ℕ) (name : List ℕ) → IsAt names p name → p < q → AreSpelled (Some fs) (take q names) As → (A : Automaton) × IsSpelled (Some fs) name A
+  spelled_before [] As p q name at h s = cc at
+  spelled_before (n ∷ names) As p zero name at h s = absurd (omega (arith, h))
+  spelled_before (n ∷ names) [] p (suc q) name at h s = absurd s
+  spelled_before (n ∷ names) (A ∷ As) zero (suc q) name at h s = (A, subst (λ m. IsSpelled (Some fs) m A) (ap (λ o. unwrap_or o name) at) s.0)
+  spelled_before (n ∷ names) (A ∷ As) (suc p) (suc q) name at h s = spelled_before names As p q name at (omega (arith, h)) s.1
+
+  spelled_at : (names : List (List ℕ)) (As : List Automaton) (p : ℕ) (name : List ℕ) → IsAt names p name → AreSpelled (Some fs) names As → (A : Automaton) × IsSpelled (Some fs) name A
+  spelled_at [] As p name at s = cc at
+  spelled_at (n ∷ names) [] p name at s = absurd s
+  spelled_at (n ∷ names) (A ∷ As) zero name at s = (A, subst (λ m. IsSpelled (Some fs) m A) (ap (λ o. unwrap_or o name) at) s.0)
+  spelled_at (n ∷ names) (A ∷ As) (suc p) name at s = spelled_at names As p name at s.1
+
+  told_both : (name : List ℕ) (P Q : List ℕ → Type 0) → Told (Some fs) name P → Told (Some fs) name Q → (bytes : List ℕ) × P bytes × Q bytes
+  told_both name P Q p q = (q.0, subst P (ap (λ o. unwrap_or o []) (sym p.1 ∙ q.1)) p.2, q.2)
+
+  -- a file of which this holds spells no automaton
+  abbrev Ends : (List ℕ → Type 0) → Type 0
+  Ends P = (name : List ℕ) (A : Automaton) → P name → IsSpelled (Some fs) name A → ⊥
+
+  abbrev Long : List ℕ → Type 0
+  Long name = Told (Some fs) name IsTooLong
+
+  abbrev Past : List ℕ → Type 0
+  Past name = Told (Some fs) name IsOver
+
+  abbrev Bad : List ℕ → Type 0
+  Bad name = Told (Some fs) name IsBad
+
+  abbrev Lost : List ℕ → Type 0
+  Lost name = IsMissing (Some fs) name
+
+  long_ends : Ends Long
+  long_ends name A l s = let both = told_both name IsTooLong (IsFileOf A) l s in long_not_spelled both.0 A both.1 both.2
+
+  past_ends : Ends Past
+  past_ends name A l s = let both = told_both name IsOver (IsFileOf A) l s in over_not_spelled both.0 A both.1 both.2
+
+  bad_ends : Ends Bad
+  bad_ends name A l s = let both = told_both name IsBad (IsFileOf A) l s in bad_not_spelled both.0 A both.1 both.2
+
+  lost_ends : Ends Lost
+  lost_ends name A l s = cc (l, s.1)
+
+  module _ (names : List (List ℕ)) where
+    -- the files before the one of that name spell automata, and this holds of that one
+    pub record Stop (P : List ℕ → Type 0) : Type 0 where
+      pub place : ℕ
+      pub name : List ℕ
+      pub first : ComesTo (Some fs) names place name
+      pub reason : P name
+
+    clash : (P Q : List ℕ → Type 0) → ((name : List ℕ) → P name → Q name → ⊥) → Ends P → Ends Q → Stop P → Stop Q → ⊥
+    clash P Q apart ep eq s t = elim (cases_order s.place t.place) [
+      | inr (inl less) ↦
+          let before = spelled_before names t.first.before.0 s.place t.place s.name s.first.stands less t.first.before.1 in
+          ep s.name before.0 s.reason before.1
+      | inl same ↦
+          let name : s.name ≡ t.name = ap (λ o. unwrap_or o s.name) (sym s.first.stands ∙ ap (slice_get names) same ∙ t.first.stands) in
+          apart t.name (subst P name s.reason) t.reason
+      | inr (inr more) ↦
+          let before = spelled_before names s.first.before.0 t.place s.place t.name t.first.stands more s.first.before.1 in
+          eq t.name before.0 t.reason before.1
+    ]
+
+    -- where each file spells an automaton, none ends the walk
+    ends_none : (P : List ℕ → Type 0) → Ends P → (As : List Automaton) → AreSpelled (Some fs) names As → Stop P → ⊥
+    ends_none P ep As s t =
+        let at = spelled_at names As t.place t.name t.first.stands s in
+        ep t.name at.0 t.reason at.1
+
+    long_stop : (place : ℕ) → IsRefused (Some fs) names IsTooLong place → Stop Long
+    long_stop place h = record { place = place; name = h.name; first = h.first; reason = h.reason }
+
+    past_stop : (place : ℕ) (what : Count) (at : ℕ) → IsRefused (Some fs) names (IsOverAt what at) place → Stop Past
+    past_stop place what at h = record { place = place; name = h.name; first = h.first; reason = told_so fs h.name (IsOverAt what at) IsOver (λ bytes o. (what, at, o)) h.reason }
+
+    bad_stop : (place at : ℕ) → IsRefused (Some fs) names (IsBadAt at) place → Stop Bad
+    bad_stop place at h = record { place = place; name = h.name; first = h.first; reason = told_so fs h.name (IsBadAt at) IsBad (λ bytes b. (at, b)) h.reason }
+
+    lost_stop : (before now place : ℕ) → ¬ Rose before now → FailsToRead (Some fs) names before now place → Stop Lost
+    lost_stop before now place calm h = record { place = place; name = h.name; first = h.first; reason = elim h.cause [ inl rose ↦ absurd (calm rose) | inr missing ↦ missing ] }
+
+    long_or_bad : Stop Long → Stop Bad → ⊥
+    long_or_bad = clash Long Bad (λ name l b. let both = told_both name IsTooLong IsBad l b in omega (arith, both.1, both.2.1.short)) long_ends bad_ends
+
+    past_or_bad : Stop Past → Stop Bad → ⊥
+    past_or_bad = clash Past Bad (λ name o b. let both = told_both name IsOver IsBad o b in bad_not_over both.0 both.2 both.1) past_ends bad_ends
+
+    long_or_lost : Stop Long → Stop Lost → ⊥
+    long_or_lost = clash Long Lost (λ name l m. cc (m, l.1)) long_ends lost_ends
+
+    past_or_lost : Stop Past → Stop Lost → ⊥
+    past_or_lost = clash Past Lost (λ name o m. cc (m, o.1)) past_ends lost_ends
+
+    bad_or_lost : Stop Bad → Stop Lost → ⊥
+    bad_or_lost = clash Bad Lost (λ name b m. cc (m, b.1)) bad_ends lost_ends
+
+    -- where a file is at fault, that is told
+    pub syntax_due : (place at before now there : ℕ) (r : Refusal) → IsRefused (Some fs) names (IsBadAt at) place → ¬ Rose before now → IsHalted (Some fs) names before now there r
+        → (refusal_status r ≡ status.Syntax) ⊎ (refusal_status r ≡ status.Memory)
+    syntax_due place at before now there refusal.ReadFault f calm h = absurd (bad_or_lost (bad_stop place at f) (lost_stop before now there calm h))
+    syntax_due place at before now there refusal.TooLong f calm h = absurd (long_or_bad (long_stop there h) (bad_stop place at f))
+    syntax_due place at before now there (refusal.Syntax p) f calm h = inl refl
+    syntax_due place at before now there (refusal.Limit what p) f calm h = absurd (past_or_bad (past_stop there (limit_of what) p h) (bad_stop place at f))
+    syntax_due place at before now there refusal.Memory f calm h = inr refl
+
+    -- where a file is beyond a limit, that is told
+    pub limit_due : (line : List ℕ) (before now there : ℕ) (r : Refusal) → IsLimited (Some fs) names line → ¬ Rose before now → IsHalted (Some fs) names before now there r
+        → (refusal_status r ≡ status.Limit) ⊎ (refusal_status r ≡ status.Memory)
+    limit_due line before now there refusal.ReadFault (TooLong place f) calm h = absurd (long_or_lost (long_stop place f) (lost_stop before now there calm h))
+    limit_due line before now there refusal.ReadFault (Over place what at f) calm h = absurd (past_or_lost (past_stop place what at f) (lost_stop before now there calm h))
+    limit_due line before now there refusal.TooLong f calm h = inl refl
+    limit_due line before now there (refusal.Syntax p) (TooLong place f) calm h = absurd (long_or_bad (long_stop place f) (bad_stop there p h))
+    limit_due line before now there (refusal.Syntax p) (Over place what at f) calm h = absurd (past_or_bad (past_stop place what at f) (bad_stop there p h))
+    limit_due line before now there (refusal.Limit what p) f calm h = inl refl
+    limit_due line before now there refusal.Memory f calm h = inr refl
+
+    -- where each file spells an automaton, only memory can be wanting
+    pub nothing_wrong : (before now there : ℕ) (r : Refusal) (As : List Automaton) → AreSpelled (Some fs) names As → ¬ Rose before now → IsHalted (Some fs) names before now there r → refusal_status r ≡ status.Memory
+    nothing_wrong before now there refusal.ReadFault As s calm h = absurd (ends_none Lost lost_ends As s (lost_stop before now there calm h))
+    nothing_wrong before now there refusal.TooLong As s calm h = absurd (ends_none Long long_ends As s (long_stop there h))
+    nothing_wrong before now there (refusal.Syntax p) As s calm h = absurd (ends_none Bad bad_ends As s (bad_stop there p h))
+    nothing_wrong before now there (refusal.Limit what p) As s calm h = absurd (ends_none Past past_ends As s (past_stop there (limit_of what) p h))
+    nothing_wrong before now there refusal.Memory As s calm h = refl
+
+    -- where each file spells an automaton, none is at fault or beyond a limit
+    pub bad_or_spelled : (As : List Automaton) (place at : ℕ) → AreSpelled (Some fs) names As → IsRefused (Some fs) names (IsBadAt at) place → ⊥
+    bad_or_spelled As place at s f = ends_none Bad bad_ends As s (bad_stop place at f)
+
+    pub limited_or_spelled : (As : List Automaton) (line : List ℕ) → AreSpelled (Some fs) names As → IsLimited (Some fs) names line → ⊥
+    limited_or_spelled As line s (TooLong place f) = ends_none Long long_ends As s (long_stop place f)
+    limited_or_spelled As line s (Over place what at f) = ends_none Past past_ends As s (past_stop place what at f)
