@@ -4,8 +4,8 @@ set -eu
 here=$(cd "$(dirname "$0")" && pwd)
 vata=${1:-$here/../bin/vata}
 mkdir -p "$here/data"
-for size in "1000 3000" "2000 6000" "4000 12000" "8000 24000"; do
-  file=$here/data/large_${size/ /_}.tmb
+for size in "25000 125000" "50000 250000" "100000 500000" "200000 1000000" "2000 2000000 1 short"; do
+  file=$here/data/large_${size// /_}.tmb
   # shellcheck disable=SC2086
   [ -f "$file" ] || python3 "$here/make.py" $size > "$file"
   echo "states and rules $size, $(stat -c %s "$file") bytes"

@@ -1,8 +1,8 @@
 #!/usr/bin/env python3
-"""Times a command beside `cat` of its input: time.py VATA WORDS.. FILE.
+"""Times a command beside `cat` and `sort` of its last file: time.py VATA WORDS.. FILE.
 
-Prints, of the command and of `cat FILE`, the processor time, the wall time and the peak memory of the
-best of five runs.
+Prints, of the command, of `cat FILE` and of `LC_ALL=C sort --parallel=1 FILE`, the processor time, the
+wall time and the peak memory of the best of five runs.
 """
 import os
 import sys
@@ -42,7 +42,9 @@ def run(words):
 
 def main():
     words = sys.argv[1:]
-    for name, command in [("vata", words), ("cat", ["cat", words[-1]])]:
+    os.environ["LC_ALL"] = "C"
+    sort = ["sort", "--parallel=1", words[-1]]
+    for name, command in [("vata", words), ("cat", ["cat", words[-1]]), ("sort", sort)]:
         cpu, wall, peak, status = min(run(command) for _ in range(5))
         print(f"{name:5} status {status}  processor {cpu:7.3f} s  wall {wall:7.3f} s  peak {peak:7.1f} MB")
 

@@ -1,12 +1,12 @@
 -- The printed text spells the canonical form.
-use Rattle.std.proofs.Common.{◌≡◌, ◌≢◌, ℕ, List, subst}
-use Rattle.std.specs.Prelude.{AllPairs, All, Contains}
+use Rattle.std.proofs.Common.{List}
+use Rattle.std.specs.Prelude.{All, Contains}
 use Rattle.std.specs.Ordering.{nat_cmp}
 use Rattle.std.proofs.lemmas.Cmp.{nat_cmp_total}
 use Rattle.std.proofs.lemmas.Map.Keys.{IsDistinct-from_sorted}
 use Rattle.std.proofs.lemmas.Map.Lookups.{exact_unsigned}
 use Rattle.std.proofs.lemmas.List.Elements.{All-contains, All-from_recursion}
-use Rattle.tree_definitions.specs.Automaton.{Automaton, Rule, IsState, FitsRule, IsAutomaton}
+use Rattle.tree_definitions.specs.Automaton.{Automaton, IsState, FitsRule, IsAutomaton}
 use Rattle.tree_definitions.specs.Canonical.{canon, rule_cmp}
 use Rattle.tree_definitions.proofs.InOrder.{in_order_rises, canon_finals, canon_rules}
 use Rattle.tree_definitions.proofs.CanonicalForms.{rules_total, rules_exact, apart_by, still_fits}

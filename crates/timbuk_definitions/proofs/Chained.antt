@@ -1,10 +1,10 @@
 -- The text of an automaton as one chain, each piece before what comes after it.
-use Rattle.std.proofs.Common.{◌≡◌, ℕ, List, [], ◌∷◌, ◌++◌, map, refl, sym, ap, ◌∙◌, append_assoc}
+use Rattle.std.proofs.Common.{◌≡◌, ℕ, List, [], ◌∷◌, ◌++◌, map, refl, ap, ◌∙◌, append_assoc}
 use Rattle.std.specs.Prelude.{codes, decimal, flat_map, unwrap_or, slice_get}
 use Rattle.std.specs.Option.{option_map_or}
 use Rattle.tree_definitions.specs.Tree.{Symbol}
 use Rattle.tree_definitions.specs.Automaton.{Automaton, Rule}
-use Rattle.timbuk_definitions.specs.Printed.{plain_text, ops_text, title_text, name_at, symbol_at, kids_text as listed_kids, rule_text as listed_rule, states_text as listed_states, finals_text as listed_finals, rules_text}
+use Rattle.timbuk_definitions.specs.Printed.{plain_text, name_at, kids_text as listed_kids, rule_text as listed_rule}
 
 -- a space, and then the word
 abbrev pub spaced : List ℕ → List ℕ

@@ -1,5 +1,5 @@
 -- Items that pass no limit have short lists.
-use Rattle.std.proofs.Common.{◌≡◌, ℕ, suc, ◌≤◌, List, [], ◌∷◌, ◌++◌, length, Option, Some, None, refl, sym, ap, ◌∙◌, subst, append_assoc, length-append, arith}
+use Rattle.std.proofs.Common.{◌≡◌, ℕ, suc, ◌≤◌, List, [], ◌∷◌, ◌++◌, length, Option, Some, None, refl, sym, ◌∙◌, subst, append_assoc, length-append, arith}
 use Rattle.std.specs.Prelude.{Contains, filter_map, Bool}
 use Rattle.std.specs.Bool.{Decides}
 use Rattle.std.specs.List.{cons_option}
@@ -10,7 +10,7 @@ use Rattle.std.proofs.lemmas.Slice.Eq.{bytes_eq-Decides}
 use Rattle.tree_definitions.specs.Automaton.{Automaton}
 use Rattle.tree_definitions.specs.Joint.{same_symbol}
 use Rattle.timbuk_definitions.specs.Grammar.{Item}
-use Rattle.timbuk_definitions.specs.Reading.{with_new, first, same_rule, symbol_of, state_of, rule_in, symbols_of, states_of, rules_of, IsRuleAt, HasLists}
+use Rattle.timbuk_definitions.specs.Reading.{with_new, first, same_rule, symbol_of, state_of, rule_in, rules_of, IsRuleAt, HasLists}
 use Rattle.timbuk_definitions.specs.Place.{Symbols, States, Rules, IsFull, IsWithin, IsSmall}
 use Rattle.timbuk_definitions.proofs.Firsts.{with_old, with_fresh, dec_listed, first_push}
 use Rattle.timbuk_definitions.proofs.Spelled.{symbol_decides, rule_decides}

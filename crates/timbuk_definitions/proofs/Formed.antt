@@ -1,6 +1,6 @@
 -- What a text spells is an automaton: no list has a repeat, and each place is in range.
-use Rattle.std.proofs.Common.{◌≡◌, ◌≢◌, ℕ, zero, suc, ◌<◌, List, [], ◌∷◌, length, get_or, Some, refl, sym, ap, ◌∙◌, subst, arith}
-use Rattle.std.specs.Prelude.{AllPairs, All, filter_map}
+use Rattle.std.proofs.Common.{◌≡◌, ◌≢◌, ℕ, zero, suc, ◌<◌, List, [], ◌∷◌, length, get_or, refl, sym, ap, ◌∙◌, subst, arith}
+use Rattle.std.specs.Prelude.{AllPairs, filter_map}
 use Rattle.std.specs.List.{AllByRecursion, AllZip}
 use Rattle.std.specs.Str.{bytes_eq}
 use Rattle.std.proofs.lemmas.List.Elements.{All-from_recursion}
@@ -11,7 +11,7 @@ use Rattle.tree_definitions.specs.Relation.{IsAt}
 use Rattle.tree_definitions.specs.Joint.{same_symbol}
 use Rattle.tree_definitions.proofs.Members.{at_unique}
 use Rattle.timbuk_definitions.specs.Grammar.{Item, NamedRule, IsFile}
-use Rattle.timbuk_definitions.specs.Reading.{same_rule, symbol_of, state_of, final_of, rule_in, symbols_of, states_of, finals_of, rules_of, IsRuleAt, HasLists, Spells}
+use Rattle.timbuk_definitions.specs.Reading.{same_rule, symbol_of, state_of, final_of, rule_in, finals_of, rules_of, IsRuleAt, HasLists}
 use Rattle.timbuk_definitions.proofs.Firsts.{one_place, at_index, first_distinct, first_contains}
 use Rattle.timbuk_definitions.proofs.Spelled.{symbol_decides, rule_decides}
 use Rattle.timbuk_definitions.proofs.Built.{RuleKnown, file_rules, each_contains}

@@ -1,6 +1,6 @@
 -- The names of a spelled automaton are names, and the ranks of its symbols are small where no limit is passed.
-use Rattle.std.proofs.Common.{◌≡◌, ℕ, zero, suc, ◌<◌, ◌≤◌, ◌^◌, true, List, [], ◌∷◌, ◌++◌, length, Option, Some, None, refl, sym, ap, ◌∙◌, subst, length-append, append_assoc, arith}
-use Rattle.std.specs.Prelude.{Contains, filter_map, unwrap_or, slice_get, codes, Bool}
+use Rattle.std.proofs.Common.{◌≡◌, ℕ, ◌<◌, ◌≤◌, ◌^◌, true, List, [], ◌∷◌, ◌++◌, length, Option, Some, None, refl, sym, subst, length-append, append_assoc, arith}
+use Rattle.std.specs.Prelude.{filter_map, unwrap_or, slice_get, codes, Bool}
 use Rattle.std.specs.Bool.{Decides}
 use Rattle.std.specs.List.{AllByRecursion, cons_option}
 use Rattle.std.specs.Str.{bytes_eq}
@@ -10,11 +10,11 @@ use Rattle.tree_definitions.specs.Name.{is_section_word, IsName}
 use Rattle.tree_definitions.specs.Tree.{Symbol}
 use Rattle.tree_definitions.specs.Automaton.{Automaton}
 use Rattle.tree_definitions.specs.Joint.{same_symbol}
-use Rattle.timbuk_definitions.specs.Grammar.{Item, Role, Plain, Title, OpName, OpRank, StateName, FinalName, RuleName, KidName, RuleArrow, ParentName, IsFile}
-use Rattle.timbuk_definitions.specs.Token.{Token, IsToken}
-use Rattle.timbuk_definitions.specs.Reading.{first, title_of, symbol_of, state_of, symbols_of, states_of, name_of, HasLists}
+use Rattle.timbuk_definitions.specs.Grammar.{Item, Role, Title, OpRank, StateName, FinalName, KidName, RuleArrow, ParentName, IsFile}
+use Rattle.timbuk_definitions.specs.Token.{Token}
+use Rattle.timbuk_definitions.specs.Reading.{first, title_of, symbol_of, state_of, symbols_of, HasLists}
 use Rattle.timbuk_definitions.specs.Machine.{Kind, Open, Close, Comma, Colon, Pointer, OpsWord, AutomatonWord, StatesWord, FinalWord, TransitionsWord, Named, kind_of, Slot, InStates, InFinals, InRules, InKids, Spot, Start, InOps, AfterOp, AfterOpColon, AfterAutomaton, AfterTitle, AfterFinal, AfterHead, AfterOpen, AfterComma, AfterClose, AfterPointer, In, AfterState, AfterColon, Move, go, step, step_in, Runs}
-use Rattle.timbuk_definitions.specs.Place.{Rank, IsOver, IsWithin}
+use Rattle.timbuk_definitions.specs.Place.{Rank, IsWithin}
 use Rattle.timbuk_definitions.specs.Printed.{HasNames}
 use Rattle.timbuk_definitions.proofs.Seen.{Sees, sees}
 use Rattle.timbuk_definitions.proofs.Complete.{complete}

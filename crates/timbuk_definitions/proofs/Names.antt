@@ -1,11 +1,11 @@
 -- A name is a word that opens no section.
-use Rattle.std.proofs.Common.{◌≡◌, ◌≢◌, ℕ, ◌≤◌, Bool, true, false, ◌&&◌, ◌||◌, not, List, [], ◌∷◌, length, refl, sym, ap, ◌∙◌, subst, arith}
-use Rattle.std.specs.Prelude.{nat_le, ◌==◌, nat_eq, codes, take}
+use Rattle.std.proofs.Common.{◌≡◌, ◌≢◌, ℕ, Bool, true, false, ◌&&◌, ◌||◌, not, List, [], ◌∷◌, length, refl, ap, arith}
+use Rattle.std.specs.Prelude.{◌==◌, nat_eq, codes}
 use Rattle.std.specs.List.{AllByRecursion, list_all, starts_with}
-use Rattle.std.proofs.lemmas.Bool.{and_from, and_parts, or_from, not_from_false}
+use Rattle.std.proofs.lemmas.Bool.{and_from, and_parts, not_from_false}
 use Rattle.std.proofs.lemmas.Bool.Decides.{nat_tests}
-use Rattle.tree_definitions.specs.Name.{is_name_byte, has_arrow, is_section_word, is_name, IsName}
-use Rattle.timbuk_definitions.specs.Token.{Sort, White, Marked, Inner, Other, sort_of, is_arrow, IsWord}
+use Rattle.tree_definitions.specs.Name.{is_name_byte, has_arrow, is_section_word, IsName}
+use Rattle.timbuk_definitions.specs.Token.{Inner, sort_of, is_arrow, IsWord}
 
 -- the arrow at two bytes
 pub arrow_here : (b c : ℕ) (w : List ℕ) → starts_with nat_eq (b ∷ c ∷ w) (codes "->") ≡ is_arrow b c

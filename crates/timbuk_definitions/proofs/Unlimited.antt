@@ -3,7 +3,7 @@ use Rattle.std.proofs.Common.{◌≡◌, ℕ, ◌⊎◌, inl, inr, List, [], ◌
 use Rattle.std.proofs.lemmas.List.{map-append}
 use Rattle.tree_definitions.specs.Automaton.{Automaton, IsAutomaton}
 use Rattle.timbuk_definitions.specs.Token.{Lexeme, Tokens, tokens_of, offset_after}
-use Rattle.timbuk_definitions.specs.Grammar.{Item, IsFile, BeginsFile, item_tokens}
+use Rattle.timbuk_definitions.specs.Grammar.{Item, IsFile, item_tokens}
 use Rattle.timbuk_definitions.specs.Reading.{Spells}
 use Rattle.timbuk_definitions.specs.Place.{Limit, IsWithin, PassesLimit, IsSmall}
 use Rattle.timbuk_definitions.specs.Printed.{HasNames}

@@ -3,7 +3,7 @@ use Rattle.std.proofs.Common.{◌≡◌, true, false, Some, refl, ap}
 use Rattle.timbuk_definitions.specs.Machine.{Kind, Open, Close, Comma, Colon, Pointer, OpsWord, AutomatonWord, StatesWord, FinalWord, TransitionsWord, Named, Stray, Slot, InStates, InFinals, InRules, InKids, Spot, Start, InOps, AfterOp, AfterOpColon, AfterAutomaton, AfterTitle, AfterFinal, AfterHead, AfterOpen, AfterComma, AfterClose, AfterPointer, In, AfterState, AfterColon, step, step_in}
 use Rattle.timbuk_text.specs.declared.table.Part.{Part}
 use Rattle.timbuk_text.specs.declared.table.Stand.{Stand}
-use Rattle.timbuk_text.specs.declared.table.Deed.{Deed}
+use Rattle.timbuk_text.specs.declared.table.Action.{Action}
 use Rattle.timbuk_text.specs.declared.table.Step.{Step}
 use Rattle.timbuk_text.specs.Table.{part_of, stand_of, sight_of, some_slot, some_kind, moved, next_at}
 
@@ -65,7 +65,7 @@ alike (AfterPointer n kids) (Named w true) = refl
 alike (AfterPointer n kids) (Named w false) = refl
 alike (AfterPointer n kids) _ = refl
 alike (In s) k = alike_in s k
-alike (AfterState s) Colon = ap (λ (p : Part). Some (let s : Step = record { deed = Deed.Plain; stand = Stand.Colon p } in s)) (same_part s)
+alike (AfterState s) Colon = ap (λ (p : Part). Some (let s : Step = record { action = Action.Plain; stand = Stand.Colon p } in s)) (same_part s)
 alike (AfterState s) (Named w true) = alike_in s (Named w true)
 alike (AfterState s) (Named w false) = alike_in s (Named w false)
 alike (AfterState s) Open = alike_in s Open
@@ -78,6 +78,6 @@ alike (AfterState s) StatesWord = alike_in s StatesWord
 alike (AfterState s) FinalWord = alike_in s FinalWord
 alike (AfterState s) TransitionsWord = alike_in s TransitionsWord
 alike (AfterState s) Stray = alike_in s Stray
-alike (AfterColon s) (Named w true) = ap (λ (p : Part). Some (let s : Step = record { deed = Deed.Plain; stand = Stand.In p } in s)) (same_part s)
+alike (AfterColon s) (Named w true) = ap (λ (p : Part). Some (let s : Step = record { action = Action.Plain; stand = Stand.In p } in s)) (same_part s)
 alike (AfterColon s) (Named w false) = refl
 alike (AfterColon s) _ = refl

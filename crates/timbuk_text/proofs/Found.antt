@@ -1,13 +1,13 @@
 -- The token at a place of a text.
-use Rattle.std.proofs.Common.{◌≡◌, ℕ, ◌+◌, ◌-◌, ◌<◌, ◌≤◌, ◌⊎◌, inl, inr, true, false, List, [], ◌∷◌, ◌++◌, length, get_or, take, drop, refl, sym, ap, ◌∙◌, subst, append_assoc, length-append, length-drop, arith}
+use Rattle.std.proofs.Common.{◌≡◌, ℕ, ◌+◌, ◌-◌, ◌<◌, ◌≤◌, inl, inr, true, false, List, [], ◌∷◌, ◌++◌, length, get_or, take, drop, refl, sym, ap, ◌∙◌, subst, length-append, length-drop, arith}
 use Rattle.std.specs.Prelude.{◌==◌, slice_range}
 use Rattle.std.proofs.lemmas.List.{drop_more, drop_all}
-use Rattle.std.proofs.lemmas.Bool.{cases_lt, and_parts, eqb-true, and_from}
+use Rattle.std.proofs.lemmas.Bool.{cases_lt, and_parts, eqb-true}
 use Rattle.std.proofs.lemmas.Bool.Decides.{nat_tests}
 use lib.Seq.{take-append_seam}
 use Rattle.timbuk_definitions.specs.Token.{Sort, White, Marked, Inner, Other, sort_of, is_arrow, Token, Mark, Arrow, Word, BadByte, bytes_of, IsToken}
 use Rattle.timbuk_definitions.specs.Cursor.{BeginsWhite, BeginsWord}
-use Rattle.timbuk_definitions.specs.Machine.{Kind, Stray, kind_of, mark_kind, word_kind}
+use Rattle.timbuk_definitions.specs.Machine.{Stray, kind_of, mark_kind, word_kind}
 use Rattle.timbuk_text.specs.Scan.{WordBetween, BeginsArrow, IsTokenAt}
 
 -- what stands between two places

@@ -1,5 +1,5 @@
 -- What the set says of an insert, where its test decides equality.
-use Rattle.std.proofs.Common.{◌≡◌, ℕ, Bool, List, sym, subst}
+use Rattle.std.proofs.Common.{◌≡◌, ℕ, Bool, List, subst}
 use Rattle.std.specs.Prelude.{Result, Ok, Err, IfOk, IsErrOf}
 use Rattle.std.specs.Bool.{Decides}
 use Rattle.timbuk_definitions.specs.Place.{IsFull}

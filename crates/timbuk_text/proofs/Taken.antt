@@ -1,8 +1,6 @@
 -- What is done at each token takes it into the store, or finds the first limit that it passes.
-use Rattle.std.proofs.Common.{◌≡◌, ◌≢◌, ℕ, ◌<◌, ◌≤◌, Bool, List, [], ◌∷◌, ◌++◌, length, Option, Some, None, refl, sym, ap, ◌∙◌, subst, arith}
-use Rattle.std.specs.Prelude.{AllPairs, filter_map, slice_get}
+use Rattle.std.proofs.Common.{◌≡◌, ℕ, ◌<◌, ◌≤◌, List, [], ◌∷◌, ◌++◌, length, Some, None, refl, sym, ap, ◌∙◌, subst, arith}
 use Rattle.std.specs.List.{AllZip}
-use Rattle.std.specs.Bool.{Decides}
 use Rattle.std.specs.Str.{bytes_eq}
 use Rattle.std.specs.Str.Parse.{digits_value}
 use Rattle.std.proofs.lemmas.Slice.Eq.{bytes_eq-Decides}
@@ -10,18 +8,14 @@ use Rattle.tree_definitions.specs.Tree.{Symbol}
 use Rattle.tree_definitions.specs.Automaton.{Rule}
 use Rattle.tree_definitions.specs.Relation.{IsAt}
 use Rattle.tree_definitions.specs.Joint.{same_symbol}
-use Rattle.tree_definitions.proofs.Members.{at_unique}
-use Rattle.timbuk_definitions.specs.Token.{Token}
-use Rattle.timbuk_definitions.specs.Grammar.{Item, Role, Plain, Title, OpName, OpRank, StateName, FinalName, RuleName, KidName, RuleArrow, ParentName, NamedRule}
-use Rattle.timbuk_definitions.specs.Reading.{with_new, first, same_rule, title_of, symbol_of, state_of, final_of, rule_in, symbols_of, states_of, finals_of, rules_of, IsRuleAt}
-use Rattle.timbuk_definitions.specs.Place.{Limit, Names, Rank, Symbols, States, Rules, number_of, name_in, IsOver, IsFull}
-use Rattle.timbuk_definitions.proofs.Firsts.{one_place, first_distinct}
-use Rattle.timbuk_definitions.proofs.Spelled.{symbol_decides, rule_decides, rule_unique}
-use Rattle.timbuk_definitions.proofs.Formed.{rule_functional}
-use Rattle.timbuk_text.specs.declared.table.Deed.{Deed}
+use Rattle.timbuk_definitions.specs.Grammar.{Item, Plain, Title, OpName, OpRank, RuleName, RuleArrow, NamedRule}
+use Rattle.timbuk_definitions.specs.Reading.{same_rule, title_of, symbol_of, state_of, final_of, rule_in, symbols_of, states_of, finals_of, rules_of, IsRuleAt}
+use Rattle.timbuk_definitions.specs.Place.{Limit, Names, Rank, Symbols, States, Rules, IsOver, IsFull}
+use Rattle.timbuk_definitions.proofs.Spelled.{symbol_decides, rule_decides}
+use Rattle.timbuk_text.specs.declared.table.Action.{Action}
 use Rattle.timbuk_text.specs.Store.{Store, HasItems, IsFew}
-use Rattle.timbuk_text.specs.Taking.{Says, HasKid, IsRuleRead, symbol_read, item, Adds, Takes, IsLeast, Passes, Interns}
-use Rattle.timbuk_text.proofs.Listed.{with_option, at_option, at_new, zip_new, zip_weaker, firsts_push, title_after, head_push}
+use Rattle.timbuk_text.specs.Taking.{symbol_read, item, Adds, Takes, IsLeast, Passes, Interns}
+use Rattle.timbuk_text.proofs.Listed.{with_option, at_new, zip_weaker, firsts_push, title_after, head_push}
 
 pub no_some : {Y : Type 0} (P : Y → Type 0) → (y : Y) × (None ≡ Some y) × P y → ⊥
 no_some P h = absurd (let e = h.1 in cc)
@@ -108,7 +102,7 @@ abbrev pub TooLong : List ℕ → Type 0
 TooLong w = 1000 < length w
 
 -- Nothing is said.
-pub plain_taken : (old : Store) (w : List ℕ) → IsFew old → Takes Deed.Plain w old old
+pub plain_taken : (old : Store) (w : List ℕ) → IsFew old → Takes Action.Plain w old old
 plain_taken old w few = record {
   adds = λ items t role says h. subst (λ r. Adds old old items (item t r)) (sym says) (record {
     lists = bare old old items (item t Plain) h refl refl refl refl refl refl refl refl refl refl;
@@ -123,7 +117,7 @@ plain_taken old w few = record {
 abbrev titled : Store → List ℕ → Store
 titled old w = record old { title = Some w }
 
-pub title_taken : (old : Store) (w : List ℕ) → length w ≤ 1000 → IsFew old → Takes Deed.Title w old (titled old w)
+pub title_taken : (old : Store) (w : List ℕ) → length w ≤ 1000 → IsFew old → Takes Action.Title w old (titled old w)
 title_taken old w short few = record {
   adds = λ items t role says h. subst (λ r. Adds old (titled old w) items (item t r)) (sym says.0) (record {
     lists = pushed old (titled old w) items (item t (Title w)) h (record { title = refl; one_title = λ v e. says.1; symbols = refl; states = refl; finals = h.finals; rules = h.rules });
@@ -134,14 +128,14 @@ title_taken old w short few = record {
   few = record { symbols = few.symbols; states = few.states; rules = few.rules };
 }
 
-pub title_long : (old : Store) (w : List ℕ) → 1000 < length w → Passes Deed.Title w old Names
+pub title_long : (old : Store) (w : List ℕ) → 1000 < length w → Passes Action.Title w old Names
 title_long old w over = λ items t role says h. subst (λ r. IsLeast items (item t r) Names) (sym says.0) (names_least items (item t (Title w)) (w, refl, over))
 
 -- The name of a symbol.
 abbrev headed : Store → List ℕ → Store
 headed old w = record old { head = w }
 
-pub op_name_taken : (old : Store) (w : List ℕ) → length w ≤ 1000 → IsFew old → Takes Deed.OpName w old (headed old w)
+pub op_name_taken : (old : Store) (w : List ℕ) → length w ≤ 1000 → IsFew old → Takes Action.OpName w old (headed old w)
 op_name_taken old w short few = record {
   adds = λ items t role says h. subst (λ r. Adds old (headed old w) items (item t r)) (sym says) (record {
     lists = bare old (headed old w) items (item t (OpName w)) h refl refl refl refl refl refl refl refl refl refl;
@@ -152,7 +146,7 @@ op_name_taken old w short few = record {
   few = record { symbols = few.symbols; states = few.states; rules = few.rules };
 }
 
-pub op_name_long : (old : Store) (w : List ℕ) → 1000 < length w → Passes Deed.OpName w old Names
+pub op_name_long : (old : Store) (w : List ℕ) → 1000 < length w → Passes Action.OpName w old Names
 op_name_long old w over = λ items t role says h. subst (λ r. IsLeast items (item t r) Names) (sym says) (names_least items (item t (OpName w)) (w, refl, over))
 
 -- A list of symbols that grows.
@@ -177,7 +171,7 @@ symbol_pushed old new items x a i h s t q f r et es eq ef er = pushed old new it
 abbrev op_symbol : Store → List ℕ → Symbol
 op_symbol old w = record { name = old.head; rank = digits_value 10 w }
 
-pub op_rank_taken : (old : Store) (w : List ℕ) (symbols : List Symbol) (i : ℕ) → digits_value 10 w ≤ 32 → Interns same_symbol 65535 old.symbols symbols (op_symbol old w) i → IsFew old → Takes Deed.OpRank w old (with_symbols old symbols)
+pub op_rank_taken : (old : Store) (w : List ℕ) (symbols : List Symbol) (i : ℕ) → digits_value 10 w ≤ 32 → Interns same_symbol 65535 old.symbols symbols (op_symbol old w) i → IsFew old → Takes Action.OpRank w old (with_symbols old symbols)
 op_rank_taken old w symbols i small s few = record {
   adds = λ items t role says h. subst (λ r. Adds old (with_symbols old symbols) items (item t r)) (sym says) (record {
     lists = symbol_pushed old (with_symbols old symbols) items (item t (OpRank (op_symbol old w))) (op_symbol old w) i h s refl refl refl refl refl refl refl refl refl;
@@ -190,10 +184,10 @@ op_rank_taken old w symbols i small s few = record {
   few = record { symbols = s.few; states = few.states; rules = few.rules };
 }
 
-pub op_rank_high : (old : Store) (w : List ℕ) → 32 < digits_value 10 w → Passes Deed.OpRank w old Rank
+pub op_rank_high : (old : Store) (w : List ℕ) → 32 < digits_value 10 w → Passes Action.OpRank w old Rank
 op_rank_high old w over = λ items t role says h. subst (λ r. IsLeast items (item t r) Rank) (sym says) (rank_least items (item t (OpRank (op_symbol old w))) over (no_some TooLong))
 
-pub op_rank_full : (old : Store) (w : List ℕ) → digits_value 10 w ≤ 32 → IsFull 65535 old.symbols (op_symbol old w) → Passes Deed.OpRank w old Symbols
+pub op_rank_full : (old : Store) (w : List ℕ) → digits_value 10 w ≤ 32 → IsFull 65535 old.symbols (op_symbol old w) → Passes Action.OpRank w old Symbols
 op_rank_full old w small full = λ items t role says h. subst (λ r. IsLeast items (item t r) Symbols) (sym says)
     (symbols_least items (item t (OpRank (op_symbol old w))) (op_symbol old w, refl, is_full_as 65535 old.symbols (symbols_of items) (op_symbol old w) h.symbols full) (no_some TooLong) (λ o. omega (arith, o, small)))
 
@@ -201,7 +195,7 @@ op_rank_full old w small full = λ items t role says h. subst (λ r. IsLeast ite
 abbrev arrowed : Store → List Symbol → ℕ → Store
 arrowed old symbols i = record old { symbols = symbols; symbol = i }
 
-pub arrow_taken : (old : Store) (w : List ℕ) (symbols : List Symbol) (i : ℕ) → Interns same_symbol 65535 old.symbols symbols (symbol_read old) i → IsFew old → Takes Deed.Arrow w old (arrowed old symbols i)
+pub arrow_taken : (old : Store) (w : List ℕ) (symbols : List Symbol) (i : ℕ) → Interns same_symbol 65535 old.symbols symbols (symbol_read old) i → IsFew old → Takes Action.Arrow w old (arrowed old symbols i)
 arrow_taken old w symbols i s few = record {
   adds = λ items t role says h. subst (λ r. Adds old (arrowed old symbols i) items (item t r)) (sym says) (record {
     lists = symbol_pushed old (arrowed old symbols i) items (item t (RuleArrow (symbol_read old))) (symbol_read old) i h s refl refl refl refl refl refl refl refl refl;
@@ -214,7 +208,7 @@ arrow_taken old w symbols i s few = record {
   few = record { symbols = s.few; states = few.states; rules = few.rules };
 }
 
-pub arrow_full : (old : Store) (w : List ℕ) → IsFull 65535 old.symbols (symbol_read old) → Passes Deed.Arrow w old Symbols
+pub arrow_full : (old : Store) (w : List ℕ) → IsFull 65535 old.symbols (symbol_read old) → Passes Action.Arrow w old Symbols
 arrow_full old w full = λ items t role says h. subst (λ r. IsLeast items (item t r) Symbols) (sym says)
     (symbols_least items (item t (RuleArrow (symbol_read old))) (symbol_read old, refl, is_full_as 65535 old.symbols (symbols_of items) (symbol_read old) h.symbols full) (no_some TooLong) (λ o. o))
 
@@ -222,7 +216,7 @@ arrow_full old w full = λ items t role says h. subst (λ r. IsLeast items (item
 abbrev opened : Store → List ℕ → Store
 opened old w = record old { head = w; kids = [] }
 
-pub head_taken : (old : Store) (w : List ℕ) → length w ≤ 1000 → IsFew old → Takes Deed.Head w old (opened old w)
+pub head_taken : (old : Store) (w : List ℕ) → length w ≤ 1000 → IsFew old → Takes Action.Head w old (opened old w)
 head_taken old w short few = record {
   adds = λ items t role says h. subst (λ r. Adds old (opened old w) items (item t r)) (sym says) (record {
     lists = bare old (opened old w) items (item t (RuleName w)) h refl refl refl refl refl refl refl refl refl refl;
@@ -233,5 +227,5 @@ head_taken old w short few = record {
   few = record { symbols = few.symbols; states = few.states; rules = few.rules };
 }
 
-pub head_long : (old : Store) (w : List ℕ) → 1000 < length w → Passes Deed.Head w old Names
+pub head_long : (old : Store) (w : List ℕ) → 1000 < length w → Passes Action.Head w old Names
 head_long old w over = λ items t role says h. subst (λ r. IsLeast items (item t r) Names) (sym says) (names_least items (item t (RuleName w)) (w, refl, over))

@@ -1,13 +1,11 @@
 -- The tokens that name states: each takes its name into the list of states.
-use Rattle.std.proofs.Common.{◌≡◌, ◌≢◌, ℕ, ◌<◌, ◌≤◌, Bool, List, [], ◌∷◌, ◌++◌, length, Option, Some, None, refl, sym, ap, ◌∙◌, subst, arith}
+use Rattle.std.proofs.Common.{◌≡◌, ◌≢◌, ℕ, ◌<◌, ◌≤◌, Bool, List, [], ◌∷◌, ◌++◌, length, Some, refl, sym, ap, ◌∙◌, subst, arith}
 use Rattle.std.specs.Prelude.{AllPairs, Contains, filter_map, nat_eq}
 use Rattle.std.specs.List.{AllZip}
-use Rattle.std.specs.Bool.{Decides}
 use Rattle.std.specs.Str.{bytes_eq}
 use Rattle.std.specs.Ordering.{eq_by_cmp}
 use Rattle.std.proofs.lemmas.Bool.Decides.{Decides-eqb}
 use Rattle.std.proofs.lemmas.Slice.Eq.{bytes_eq-Decides}
-use Rattle.tree_definitions.specs.Tree.{Symbol}
 use Rattle.tree_definitions.specs.Automaton.{Rule}
 use Rattle.tree_definitions.specs.Canonical.{rule_cmp}
 use Rattle.tree_definitions.specs.Relation.{IsAt}
@@ -15,17 +13,17 @@ use Rattle.tree_definitions.specs.Joint.{same_symbol}
 use Rattle.tree_definitions.proofs.Members.{at_unique}
 use Rattle.tree_definitions.proofs.CanonicalForms.{rules_total, rules_exact, ties_decide}
 use Rattle.timbuk_definitions.specs.Token.{Token}
-use Rattle.timbuk_definitions.specs.Grammar.{Item, Role, StateName, FinalName, KidName, ParentName, NamedRule}
-use Rattle.timbuk_definitions.specs.Reading.{with_new, first, same_rule, title_of, symbol_of, state_of, final_of, rule_in, symbols_of, states_of, finals_of, rules_of, IsRuleAt}
-use Rattle.timbuk_definitions.specs.Place.{Limit, Names, Rank, Symbols, States, Rules, IsOver, IsFull}
+use Rattle.timbuk_definitions.specs.Grammar.{Item, StateName, FinalName, KidName, ParentName, NamedRule}
+use Rattle.timbuk_definitions.specs.Reading.{with_new, same_rule, symbol_of, state_of, symbols_of, states_of, finals_of, rules_of, IsRuleAt}
+use Rattle.timbuk_definitions.specs.Place.{Names, Rank, States, Rules, IsFull}
 use Rattle.timbuk_definitions.proofs.Firsts.{one_place, first_distinct}
 use Rattle.timbuk_definitions.proofs.Spelled.{symbol_decides, rule_decides, rule_unique}
 use Rattle.timbuk_definitions.proofs.Formed.{rule_functional, zip_length}
-use Rattle.timbuk_text.specs.declared.table.Deed.{Deed}
+use Rattle.timbuk_text.specs.declared.table.Action.{Action}
 use Rattle.timbuk_text.specs.Store.{Store, HasItems, IsFew}
-use Rattle.timbuk_text.specs.Taking.{Says, HasKid, IsRuleRead, item, Adds, Takes, IsLeast, Passes, Interns, line_read}
-use Rattle.timbuk_text.proofs.Listed.{with_option, at_new, zip_new, zip_left, zip_right, firsts_push, title_after}
-use Rattle.timbuk_text.proofs.Taken.{Pushes, pushed, no_some, one_some, zip_grown, rule_grown, rules_grown, within_all, long, names_least, rank_least, states_least, rules_least, full_as, is_full_as, TooLong}
+use Rattle.timbuk_text.specs.Taking.{IsRuleRead, item, Adds, Takes, IsLeast, Passes, Interns, line_read}
+use Rattle.timbuk_text.proofs.Listed.{with_option, at_new, zip_new, zip_left, zip_right, firsts_push}
+use Rattle.timbuk_text.proofs.Taken.{pushed, no_some, one_some, zip_grown, rules_grown, within_all, long, names_least, rank_least, states_least, rules_least, full_as, is_full_as, TooLong}
 
 -- One name of a state is taken into the list.
 module _ (old : Store) (w : List ℕ) (states : List (List ℕ)) (q : ℕ) (s : Interns bytes_eq 1000000 old.states states w q) where
@@ -57,7 +55,7 @@ module _ (old : Store) (w : List ℕ) (states : List (List ℕ)) (q : ℕ) (s : 
 abbrev with_states : Store → List (List ℕ) → Store
 with_states old states = record old { states = states }
 
-pub state_taken : (old : Store) (w : List ℕ) (states : List (List ℕ)) (q : ℕ) → length w ≤ 1000 → Interns bytes_eq 1000000 old.states states w q → IsFew old → Takes Deed.State w old (with_states old states)
+pub state_taken : (old : Store) (w : List ℕ) (states : List (List ℕ)) (q : ℕ) → length w ≤ 1000 → Interns bytes_eq 1000000 old.states states w q → IsFew old → Takes Action.State w old (with_states old states)
 state_taken old w states q short s few = record {
   adds = λ items t role says h. subst (λ r. Adds old (with_states old states) items (item t r)) (sym says) (record {
     lists = pushed old (with_states old states) items (item t (StateName w)) h (record {
@@ -76,10 +74,10 @@ state_taken old w states q short s few = record {
   few = record { symbols = few.symbols; states = s.few; rules = few.rules };
 }
 
-pub state_long : (old : Store) (w : List ℕ) → 1000 < length w → Passes Deed.State w old Names
+pub state_long : (old : Store) (w : List ℕ) → 1000 < length w → Passes Action.State w old Names
 state_long old w over = λ items t role says h. subst (λ r. IsLeast items (item t r) Names) (sym says) (names_least items (item t (StateName w)) (w, refl, over))
 
-pub state_full : (old : Store) (w : List ℕ) → length w ≤ 1000 → IsFull 1000000 old.states w → Passes Deed.State w old States
+pub state_full : (old : Store) (w : List ℕ) → length w ≤ 1000 → IsFull 1000000 old.states w → Passes Action.State w old States
 state_full old w short full = λ items t role says h. subst (λ r. IsLeast items (item t r) States) (sym says)
     (states_least items (item t (StateName w)) (w, refl, is_full_as 1000000 old.states (states_of items) w h.states full) (one_some TooLong w (long w short)) (λ o. o) (no_some (IsFull 65535 (symbols_of items))))
 
@@ -87,7 +85,7 @@ state_full old w short full = λ items t role says h. subst (λ r. IsLeast items
 abbrev with_final : Store → List (List ℕ) → ℕ → Store
 with_final old states q = record old { states = states; finals = with_new nat_eq old.finals q }
 
-pub final_taken : (old : Store) (w : List ℕ) (states : List (List ℕ)) (q : ℕ) → length w ≤ 1000 → Interns bytes_eq 1000000 old.states states w q → IsFew old → Takes Deed.Final w old (with_final old states q)
+pub final_taken : (old : Store) (w : List ℕ) (states : List (List ℕ)) (q : ℕ) → length w ≤ 1000 → Interns bytes_eq 1000000 old.states states w q → IsFew old → Takes Action.Final w old (with_final old states q)
 final_taken old w states q short s few = record {
   adds = λ items t role says h. subst (λ r. Adds old (with_final old states q) items (item t r)) (sym says) (
       let x : Item = item t (FinalName w) in
@@ -110,10 +108,10 @@ final_taken old w states q short s few = record {
   few = record { symbols = few.symbols; states = s.few; rules = few.rules };
 }
 
-pub final_long : (old : Store) (w : List ℕ) → 1000 < length w → Passes Deed.Final w old Names
+pub final_long : (old : Store) (w : List ℕ) → 1000 < length w → Passes Action.Final w old Names
 final_long old w over = λ items t role says h. subst (λ r. IsLeast items (item t r) Names) (sym says) (names_least items (item t (FinalName w)) (w, refl, over))
 
-pub final_full : (old : Store) (w : List ℕ) → length w ≤ 1000 → IsFull 1000000 old.states w → Passes Deed.Final w old States
+pub final_full : (old : Store) (w : List ℕ) → length w ≤ 1000 → IsFull 1000000 old.states w → Passes Action.Final w old States
 final_full old w short full = λ items t role says h. subst (λ r. IsLeast items (item t r) States) (sym says)
     (states_least items (item t (FinalName w)) (w, refl, is_full_as 1000000 old.states (states_of items) w h.states full) (one_some TooLong w (long w short)) (λ o. o) (no_some (IsFull 65535 (symbols_of items))))
 
@@ -121,7 +119,7 @@ final_full old w short full = λ items t role says h. subst (λ r. IsLeast items
 abbrev with_kid : Store → List (List ℕ) → ℕ → Store
 with_kid old states q = record old { states = states; kids = old.kids ++ q ∷ [] }
 
-pub kid_taken : (old : Store) (w : List ℕ) (states : List (List ℕ)) (q : ℕ) → length w ≤ 1000 → length old.kids < 32 → Interns bytes_eq 1000000 old.states states w q → IsFew old → Takes Deed.Kid w old (with_kid old states q)
+pub kid_taken : (old : Store) (w : List ℕ) (states : List (List ℕ)) (q : ℕ) → length w ≤ 1000 → length old.kids < 32 → Interns bytes_eq 1000000 old.states states w q → IsFew old → Takes Action.Kid w old (with_kid old states q)
 kid_taken old w states q short fits s few = record {
   adds = λ items t role says h. subst (λ r. Adds old (with_kid old states q) items (item t r)) (sym says) (record {
     lists = pushed old (with_kid old states q) items (item t (KidName (length old.kids) w)) h (record {
@@ -140,13 +138,13 @@ kid_taken old w states q short fits s few = record {
   few = record { symbols = few.symbols; states = s.few; rules = few.rules };
 }
 
-pub kid_long : (old : Store) (w : List ℕ) → 1000 < length w → Passes Deed.Kid w old Names
+pub kid_long : (old : Store) (w : List ℕ) → 1000 < length w → Passes Action.Kid w old Names
 kid_long old w over = λ items t role says h. subst (λ r. IsLeast items (item t r) Names) (sym says) (names_least items (item t (KidName (length old.kids) w)) (w, refl, over))
 
-pub kid_high : (old : Store) (w : List ℕ) → length w ≤ 1000 → 32 ≤ length old.kids → Passes Deed.Kid w old Rank
+pub kid_high : (old : Store) (w : List ℕ) → length w ≤ 1000 → 32 ≤ length old.kids → Passes Action.Kid w old Rank
 kid_high old w short over = λ items t role says h. subst (λ r. IsLeast items (item t r) Rank) (sym says) (rank_least items (item t (KidName (length old.kids) w)) over (one_some TooLong w (long w short)))
 
-pub kid_full : (old : Store) (w : List ℕ) → length w ≤ 1000 → length old.kids < 32 → IsFull 1000000 old.states w → Passes Deed.Kid w old States
+pub kid_full : (old : Store) (w : List ℕ) → length w ≤ 1000 → length old.kids < 32 → IsFull 1000000 old.states w → Passes Action.Kid w old States
 kid_full old w short fits full = λ items t role says h. subst (λ r. IsLeast items (item t r) States) (sym says)
     (states_least items (item t (KidName (length old.kids) w)) (w, refl, is_full_as 1000000 old.states (states_of items) w h.states full) (one_some TooLong w (long w short)) (λ o. omega (arith, o, fits)) (no_some (IsFull 65535 (symbols_of items))))
 
@@ -225,7 +223,7 @@ module _ (old : Store) (w : List ℕ) (states : List (List ℕ)) (q : ℕ) (s : 
       (one_some (IsFull 1000000 (states_of items)) r.parent states_room)
 
 pub parent_taken : (old : Store) (w : List ℕ) (states : List (List ℕ)) (q : ℕ) (rules : List Rule) (j : ℕ) → length w ≤ 1000 → Interns bytes_eq 1000000 old.states states w q
-    → Interns (eq_by_cmp rule_cmp) 2000000 old.rules rules (line_read old q) j → IsFew old → Takes Deed.Parent w old (with_rule old states rules)
+    → Interns (eq_by_cmp rule_cmp) 2000000 old.rules rules (line_read old q) j → IsFew old → Takes Action.Parent w old (with_rule old states rules)
 parent_taken old w states q rules j short s u few = record {
   adds = λ items t role says h. subst (λ r. Adds old (with_rule old states rules) items (item t r)) (sym says.1) (parent_adds old w states q s items t h says.0 says.2 rules j short u);
   after = tt;
@@ -233,14 +231,14 @@ parent_taken old w states q rules j short s u few = record {
   few = record { symbols = few.symbols; states = s.few; rules = u.few };
 }
 
-pub parent_long : (old : Store) (w : List ℕ) → 1000 < length w → Passes Deed.Parent w old Names
+pub parent_long : (old : Store) (w : List ℕ) → 1000 < length w → Passes Action.Parent w old Names
 parent_long old w over = λ items t role says h. subst (λ r. IsLeast items (item t r) Names) (sym says.1)
     (names_least items (item t (ParentName says.0)) (w, ap Some says.2.parent, over))
 
-pub parent_full : (old : Store) (w : List ℕ) → length w ≤ 1000 → IsFull 1000000 old.states w → Passes Deed.Parent w old States
+pub parent_full : (old : Store) (w : List ℕ) → length w ≤ 1000 → IsFull 1000000 old.states w → Passes Action.Parent w old States
 parent_full old w short full = λ items t role says h. subst (λ r. IsLeast items (item t r) States) (sym says.1)
     (states_least items (item t (ParentName says.0)) (w, ap Some says.2.parent, is_full_as 1000000 old.states (states_of items) w h.states full)
     (one_some TooLong says.0.parent (subst (λ n. ¬ TooLong n) (sym says.2.parent) (long w short))) (λ o. o) (no_some (IsFull 65535 (symbols_of items))))
 
-pub rule_full : (old : Store) (w : List ℕ) (states : List (List ℕ)) (q : ℕ) → length w ≤ 1000 → Interns bytes_eq 1000000 old.states states w q → IsFull 2000000 old.rules (line_read old q) → Passes Deed.Parent w old Rules
+pub rule_full : (old : Store) (w : List ℕ) (states : List (List ℕ)) (q : ℕ) → length w ≤ 1000 → Interns bytes_eq 1000000 old.states states w q → IsFull 2000000 old.rules (line_read old q) → Passes Action.Parent w old Rules
 rule_full old w states q short s full = λ items t role says h. subst (λ r. IsLeast items (item t r) Rules) (sym says.1) (parent_least old w states q s items t h says.0 says.2 short full)

@@ -1,18 +1,17 @@
 -- What one turn of the reader, and the end of the text, mean.
 use Rattle.std.proofs.Common.{◌≡◌, ℕ, ◌+◌, ◌-◌, ◌^◌, ◌<◌, ◌≤◌, List, [], ◌∷◌, ◌++◌, length, drop, inl, inr, Option, Some, None, refl, sym, ap, ◌∙◌, subst, append_assoc, length-append, length-drop, arith}
-use Rattle.std.specs.Prelude.{slice_range, unwrap_or, codes, slice_get, filter_map, All}
+use Rattle.std.specs.Prelude.{slice_range, unwrap_or, codes}
 use Rattle.std.specs.List.{AllByRecursion}
-use Rattle.std.proofs.lemmas.List.{append-nil, drop_all}
+use Rattle.std.proofs.lemmas.List.{drop_all}
 use Rattle.std.proofs.lemmas.List.Elements.{All-from_recursion}
 use Rattle.tree_definitions.specs.Name.{IsName}
 use Rattle.tree_definitions.specs.Tree.{Symbol}
-use Rattle.tree_definitions.specs.Automaton.{Automaton}
 use Rattle.ta_model.specs.Listing.{IsListed}
-use Rattle.timbuk_definitions.specs.Token.{Sort, White, Marked, Inner, Other, sort_of, Token, Word, bytes_of, IsGap, Lexeme, IsLexed, AreLexemes, text_of, bytes_of_lexeme, tokens_of, offset_after, Tokens}
-use Rattle.timbuk_definitions.specs.Cursor.{BeginsWhite, BeginsWord, IsNext}
-use Rattle.timbuk_definitions.specs.Grammar.{Item, IsFile, item_tokens}
-use Rattle.timbuk_definitions.specs.Machine.{Slot, InStates, InFinals, InRules, InKids, Spot, Start, InOps, AfterOp, AfterOpColon, AfterAutomaton, AfterTitle, AfterFinal, AfterHead, AfterOpen, AfterComma, AfterClose, AfterPointer, In, AfterState, AfterColon, Move, kind_of, step, IsEnd}
-use Rattle.timbuk_definitions.specs.Place.{Limit, IsBadPlace, PassesLimit, PassesNoLimit, IsWithin}
+use Rattle.timbuk_definitions.specs.Token.{Sort, White, Marked, Inner, Other, sort_of, Token, bytes_of, IsGap, Lexeme, IsLexed, AreLexemes, text_of, bytes_of_lexeme, offset_after, Tokens}
+use Rattle.timbuk_definitions.specs.Cursor.{BeginsWhite, BeginsWord}
+use Rattle.timbuk_definitions.specs.Grammar.{IsFile, item_tokens}
+use Rattle.timbuk_definitions.specs.Machine.{InStates, InFinals, InRules, InKids, Spot, Start, InOps, AfterOp, AfterOpColon, AfterAutomaton, AfterTitle, AfterFinal, AfterHead, AfterOpen, AfterComma, AfterClose, AfterPointer, In, AfterState, AfterColon, Move, kind_of, step, IsEnd}
+use Rattle.timbuk_definitions.specs.Place.{Limit, IsBadPlace, PassesLimit, PassesNoLimit}
 use Rattle.timbuk_definitions.specs.Progress.{HasRead}
 use Rattle.timbuk_definitions.specs.Reading.{HasLists, Spells}
 use Rattle.timbuk_definitions.proofs.Lexing.{one, lex, lex_lexed, lex_lexemes, Lexed, both}
@@ -26,8 +25,8 @@ use Rattle.timbuk_text.specs.declared.table.Stand.{Stand}
 use Rattle.timbuk_text.specs.declared.table.Step.{Step}
 use Rattle.timbuk_text.specs.declared.table.Sight.{Sight}
 use Rattle.timbuk_text.specs.Scan.{GapBetween, IsTokenAt}
-use Rattle.timbuk_text.specs.Table.{some_spot, stand_of, sight_of, deed_of, moved, next_at}
-use Rattle.timbuk_text.specs.Store.{Store, empty, HasItems, IsFew}
+use Rattle.timbuk_text.specs.Table.{some_spot, stand_of, sight_of, action_of, moved, next_at}
+use Rattle.timbuk_text.specs.Store.{Store, empty}
 use Rattle.timbuk_text.specs.Taking.{IsReady, Takes, Passes, item}
 use Rattle.timbuk_text.specs.Reading.{IsReading, automaton_of}
 use Rattle.timbuk_text.proofs.Alike.{alike}
@@ -70,9 +69,9 @@ part (b ∷ bs) = go (sort_of b) refl (part bs)
     go Inner e p = other (λ h. let both : White ≡ Inner = sym h ∙ e in cc)
     go Other e p = other (λ h. let both : White ≡ Other = sym h ∙ e in cc)
 
-moved_some : (o : Option Move) (s : Step) → moved o ≡ Some s → (mv : Move) × (o ≡ Some mv) × (s.deed ≡ deed_of mv.role) × (s.stand ≡ stand_of mv.spot)
+moved_some : (o : Option Move) (s : Step) → moved o ≡ Some s → (mv : Move) × (o ≡ Some mv) × (s.action ≡ action_of mv.role) × (s.stand ≡ stand_of mv.spot)
 moved_some None s e = absurd cc
-moved_some (Some mv) s e = let made : Step = record { deed = deed_of mv.role; stand = stand_of mv.spot } in let same : made ≡ s = cc in (mv, refl, sym (ap (λ (x : Step). x.deed) same), sym (ap (λ (x : Step). x.stand) same))
+moved_some (Some mv) s e = let made : Step = record { action = action_of mv.role; stand = stand_of mv.spot } in let same : made ≡ s = cc in (mv, refl, sym (ap (λ (x : Step). x.action) same), sym (ap (λ (x : Step). x.stand) same))
 
 moved_none : (o : Option Move) → moved o ≡ None → o ≡ None
 moved_none None e = refl
@@ -134,17 +133,17 @@ module _ (text : List ℕ) (at : ℕ) (stand : Stand) (s : Store) (r : IsReading
         (subst (IsBadPlace text) (sym (place l)) (bad text r.gap r.front some_next.1 r.items r.spot some_next.0 read_next none), bad_unlimited text r.gap r.front some_next.1 r.items r.spot some_next.0 read_next none)
 
     module _ (sight : Sight) (seen : sight ≡ sight_of (kind_of t)) (st : Step) (goes : next_at stand sight ≡ Some st) where
-      move : (mv : Move) × (step r.spot (kind_of t) ≡ Some mv) × (st.deed ≡ deed_of mv.role) × (st.stand ≡ stand_of mv.spot)
+      move : (mv : Move) × (step r.spot (kind_of t) ≡ Some mv) × (st.action ≡ action_of mv.role) × (st.stand ≡ stand_of mv.spot)
       move = moved_some (step r.spot (kind_of t)) st (looks sight seen ∙ goes)
 
       turn : Turn s (slice_range text at end) move.0
       turn = subst (λ w. Turn s w move.0) found.bytes (turned r.spot (kind_of t) s t move.0 r.carries (sees t found.token) move.1)
 
-      pub turn_ready : IsReady st.deed s (slice_range text at end)
+      pub turn_ready : IsReady st.action s (slice_range text at end)
       turn_ready = subst (λ d. IsReady d s (slice_range text at end)) (sym move.2) turn.ready
 
       -- the token is over a limit
-      pub turn_over : (what : Limit) → Passes st.deed (slice_range text at end) s what → at ≤ length text → PassesLimit text what at
+      pub turn_over : (what : Limit) → Passes st.action (slice_range text at end) s what → at ≤ length text → PassesLimit text what at
       unfolding some_next
       turn_over what p l =
           let least = subst (λ d. Passes d (slice_range text at end) s what) move.2 p r.items t move.0.role turn.says r.lists in
@@ -152,9 +151,9 @@ module _ (text : List ℕ) (at : ℕ) (stand : Stand) (s : Store) (r : IsReading
           (over text r.gap r.front some_next.1 r.items r.spot some_next.0 read_next move.0 what move.1 (least.over, least.least))
 
       -- the token is taken
-      pub turn_taken : (new : Store) (after : ℕ) → Takes st.deed (slice_range text at end) s new → GapBetween text end after → ¬ BeginsWhite (drop after text) → IsReading text after st.stand new
+      pub turn_taken : (new : Store) (after : ℕ) → Takes st.action (slice_range text at end) s new → GapBetween text end after → ¬ BeginsWhite (drop after text) → IsReading text after st.stand new
       turn_taken new after p g solid =
-          let takes : Takes (deed_of move.0.role) (slice_range text at end) s new = subst (λ d. Takes d (slice_range text at end) s new) move.2 p in
+          let takes : Takes (action_of move.0.role) (slice_range text at end) s new = subst (λ d. Takes d (slice_range text at end) s new) move.2 p in
           let adds = takes.adds r.items t move.0.role turn.says r.lists in
           let n = next_lexeme g.0 (drop after text) g.1 g.2 solid in
           let read : HasRead text r.gap r.front (one t g.0 ∷ (lex (drop after text)).lexemes) r.items r.spot = subst (λ b. HasRead text r.gap r.front b r.items r.spot) n.0 r.read in

@@ -1,28 +1,26 @@
 -- What the machine says at a step is what the table has to do, and the store carries what comes after it.
-use Rattle.std.proofs.Common.{◌≡◌, ℕ, ◌≤◌, true, false, List, [], ◌∷◌, ◌++◌, length, Option, Some, None, refl, sym, ap, ◌∙◌, subst, length-append, arith}
+use Rattle.std.proofs.Common.{◌≡◌, ℕ, true, List, [], ◌∷◌, ◌++◌, length, Option, Some, None, refl, sym, ap, ◌∙◌, subst, length-append, arith}
 use Rattle.std.specs.List.{AllZip}
-use Rattle.std.proofs.lemmas.List.Elements.{AllZip-push}
 use Rattle.std.specs.Str.Parse.{digits_value}
 use Rattle.tree_definitions.specs.Name.{IsName}
-use Rattle.tree_definitions.specs.Tree.{Symbol}
 use Rattle.tree_definitions.specs.Relation.{IsAt}
-use Rattle.timbuk_definitions.specs.Token.{Token, Word, bytes_of}
-use Rattle.timbuk_definitions.specs.Grammar.{Role, Plain, Title, OpName, OpRank, StateName, FinalName, RuleName, KidName, RuleArrow, ParentName, are_digits}
-use Rattle.timbuk_definitions.specs.Machine.{Kind, Open, Close, Comma, Colon, Pointer, OpsWord, AutomatonWord, StatesWord, FinalWord, TransitionsWord, Named, Stray, Slot, InStates, InFinals, InRules, InKids, Spot, Start, InOps, AfterOp, AfterOpColon, AfterAutomaton, AfterTitle, AfterFinal, AfterHead, AfterOpen, AfterComma, AfterClose, AfterPointer, In, AfterState, AfterColon, Move, step, step_in}
+use Rattle.timbuk_definitions.specs.Token.{Token, bytes_of}
+use Rattle.timbuk_definitions.specs.Grammar.{Role, Plain, OpRank, KidName, RuleArrow, are_digits}
+use Rattle.timbuk_definitions.specs.Machine.{Kind, Open, Close, Comma, Colon, Pointer, OpsWord, AutomatonWord, StatesWord, FinalWord, TransitionsWord, Named, Slot, InStates, InFinals, InRules, InKids, Spot, Start, InOps, AfterOp, AfterOpColon, AfterAutomaton, AfterTitle, AfterFinal, AfterHead, AfterOpen, AfterComma, AfterClose, AfterPointer, In, AfterState, AfterColon, Move, step, step_in}
 use Rattle.timbuk_definitions.proofs.Seen.{Sees}
 use Rattle.timbuk_definitions.proofs.Formed.{zip_length}
-use Rattle.timbuk_text.specs.declared.table.Deed.{Deed}
-use Rattle.timbuk_text.specs.Table.{deed_of}
+use Rattle.timbuk_text.specs.Table.{action_of}
 use Rattle.timbuk_text.specs.Store.{Store, Heads, Bears, Awaits, CarriesSlot, Carries}
-use Rattle.timbuk_text.specs.Taking.{Says, After, HasKid, IsReady, IsRuleRead, symbol_read}
+use Rattle.timbuk_text.proofs.Listed.{zip_push}
+use Rattle.timbuk_text.specs.Taking.{Says, After, HasKid, IsReady, symbol_read}
 
 abbrev Grows : Store → Store → Type 0
 Grows old new = (i : ℕ) (n : List ℕ) → IsAt old.states i n → IsAt new.states i n
 
 pub record Turn (old : Store) (w : List ℕ) (mv : Move) : Type 0 where
-  pub says : Says old (deed_of mv.role) w mv.role
-  pub ready : IsReady (deed_of mv.role) old w
-  pub carries : (new : Store) → After (deed_of mv.role) w old new → Grows old new → Carries new mv.spot
+  pub says : Says old (action_of mv.role) w mv.role
+  pub ready : IsReady (action_of mv.role) old w
+  pub carries : (new : Store) → After (action_of mv.role) w old new → Grows old new → Carries new mv.spot
 
 abbrev Turns : Store → List ℕ → Option Move → Type 0
 Turns old w None = Unit {0}
@@ -46,12 +44,6 @@ grown old new g [] [] h = tt
 grown old new g [] (n ∷ ns) h = absurd h
 grown old new g (q ∷ qs) [] h = absurd h
 grown old new g (q ∷ qs) (n ∷ ns) h = (g q n h.0, grown old new g qs ns h.1)
-
-zip_push : {X Y : Type 0} (R : X → Y → Type 0) (xs : List X) (ys : List Y) (x : X) (y : Y) → AllZip R xs ys → R x y → AllZip R (xs ++ x ∷ []) (ys ++ y ∷ [])
-zip_push R [] [] x y h r = (r, tt)
-zip_push R [] (z ∷ ys) x y h r = absurd h
-zip_push R (z ∷ xs) [] x y h r = absurd h
-zip_push R (z ∷ xs) (v ∷ ys) x y h r = (h.0, zip_push R xs ys x y h.1 r)
 
 kid_borne : (old new : Store) (n w : List ℕ) (kids : List (List ℕ)) → Bears old n kids → HasKid w old new → Grows old new → Bears new n (kids ++ w ∷ [])
 kid_borne old new n w kids b h g = record {

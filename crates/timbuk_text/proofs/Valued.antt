@@ -1,5 +1,5 @@
 -- The value of digits, cut off at 33.
-use Rattle.std.proofs.Common.{◌≡◌, ℕ, ◌+◌, ◌*◌, ◌-◌, ◌≤◌, true, Bool, ◌&&◌, List, [], ◌∷◌, length, drop, get_or, ◌<◌, refl, sym, ap, ◌∙◌, subst, arith, min}
+use Rattle.std.proofs.Common.{◌≡◌, ℕ, ◌+◌, ◌*◌, ◌-◌, ◌≤◌, true, ◌&&◌, List, [], ◌∷◌, length, drop, get_or, ◌<◌, sym, ap, ◌∙◌, subst, arith, min}
 use Rattle.std.specs.Prelude.{nat_le}
 use Rattle.std.specs.Str.Parse.{digits_value_after}
 use Rattle.std.specs.Char.{digit_value}

@@ -5,7 +5,7 @@ use Rattle.timbuk_definitions.specs.Machine.{Kind, Open, Close, Comma, Colon, Po
 use Rattle.timbuk_text.specs.declared.table.Part.{Part}
 use Rattle.timbuk_text.specs.declared.table.Stand.{Stand}
 use Rattle.timbuk_text.specs.declared.table.Sight.{Sight}
-use Rattle.timbuk_text.specs.declared.table.Deed.{Deed}
+use Rattle.timbuk_text.specs.declared.table.Action.{Action}
 use Rattle.timbuk_text.specs.declared.table.Step.{Step}
 
 abbrev pub part_of : Slot → Part
@@ -86,21 +86,21 @@ some_kind Sight.Name = Named [] false
 some_kind Sight.Stray = Stray
 
 -- what a token says, without the names
-abbrev pub deed_of : Role → Deed
-deed_of Plain = Deed.Plain
-deed_of (Title w) = Deed.Title
-deed_of (OpName w) = Deed.OpName
-deed_of (OpRank a) = Deed.OpRank
-deed_of (StateName w) = Deed.State
-deed_of (FinalName w) = Deed.Final
-deed_of (RuleName w) = Deed.Head
-deed_of (KidName i w) = Deed.Kid
-deed_of (RuleArrow a) = Deed.Arrow
-deed_of (ParentName r) = Deed.Parent
+abbrev pub action_of : Role → Action
+action_of Plain = Action.Plain
+action_of (Title w) = Action.Title
+action_of (OpName w) = Action.OpName
+action_of (OpRank a) = Action.OpRank
+action_of (StateName w) = Action.State
+action_of (FinalName w) = Action.Final
+action_of (RuleName w) = Action.Head
+action_of (KidName i w) = Action.Kid
+action_of (RuleArrow a) = Action.Arrow
+action_of (ParentName r) = Action.Parent
 
 abbrev pub moved : Option Move → Option Step
 moved None = None
-moved (Some m) = Some (record { deed = deed_of m.role; stand = stand_of m.spot })
+moved (Some m) = Some (record { action = action_of m.role; stand = stand_of m.spot })
 
 -- the steps look alike whatever the names are
 abbrev pub next_at : Stand → Sight → Option Step

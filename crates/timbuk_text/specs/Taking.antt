@@ -10,7 +10,7 @@ use Rattle.timbuk_definitions.specs.Token.{Token}
 use Rattle.timbuk_definitions.specs.Grammar.{Item, Role, Plain, Title, OpName, OpRank, StateName, FinalName, RuleName, KidName, RuleArrow, ParentName, NamedRule, are_digits}
 use Rattle.timbuk_definitions.specs.Place.{Limit, Names, Rank, Symbols, States, Rules, number_of, IsOver, IsFull}
 use Rattle.timbuk_definitions.specs.Reading.{with_new}
-use Rattle.timbuk_text.specs.declared.table.Deed.{Deed}
+use Rattle.timbuk_text.specs.declared.table.Action.{Action}
 use Rattle.timbuk_text.specs.declared.error.Counted.{Counted}
 use Rattle.timbuk_text.specs.Store.{Store, HasItems, IsFew}
 
@@ -29,17 +29,17 @@ pub record IsRuleRead (s : Store) (w : List ℕ) (r : NamedRule) : Type 0 where
   pub parent : r.parent ≡ w
 
 -- what a token with these bytes says, by what it has to say and what is in the store
-abbrev pub Says : Store → Deed → List ℕ → Role → Type 0
-Says s Deed.Plain w role = role ≡ Plain
-Says s Deed.Title w role = (role ≡ Title w) × (s.title ≡ None)
-Says s Deed.OpName w role = role ≡ OpName w
-Says s Deed.OpRank w role = role ≡ OpRank (record { name = s.head; rank = digits_value 10 w })
-Says s Deed.State w role = role ≡ StateName w
-Says s Deed.Final w role = role ≡ FinalName w
-Says s Deed.Head w role = role ≡ RuleName w
-Says s Deed.Kid w role = role ≡ KidName (length s.kids) w
-Says s Deed.Arrow w role = role ≡ RuleArrow (symbol_read s)
-Says s Deed.Parent w role = (r : NamedRule) × (role ≡ ParentName r) × IsRuleRead s w r
+abbrev pub Says : Store → Action → List ℕ → Role → Type 0
+Says s Action.Plain w role = role ≡ Plain
+Says s Action.Title w role = (role ≡ Title w) × (s.title ≡ None)
+Says s Action.OpName w role = role ≡ OpName w
+Says s Action.OpRank w role = role ≡ OpRank (record { name = s.head; rank = digits_value 10 w })
+Says s Action.State w role = role ≡ StateName w
+Says s Action.Final w role = role ≡ FinalName w
+Says s Action.Head w role = role ≡ RuleName w
+Says s Action.Kid w role = role ≡ KidName (length s.kids) w
+Says s Action.Arrow w role = role ≡ RuleArrow (symbol_read s)
+Says s Action.Parent w role = (r : NamedRule) × (role ≡ ParentName r) × IsRuleRead s w r
 
 -- a child is read
 pub record HasKid (w : List ℕ) (old new : Store) : Type 0 where
@@ -50,24 +50,24 @@ pub record HasKid (w : List ℕ) (old new : Store) : Type 0 where
   pub state : IsAt new.states place w
 
 -- what is being read after it
-abbrev pub After : Deed → List ℕ → Store → Store → Type 0
-After Deed.Plain w old new = new ≡ old
-After Deed.Title w old new = Unit {0}
-After Deed.OpName w old new = (new.head ≡ w) × (new.title ≡ old.title)
-After Deed.OpRank w old new = new.title ≡ old.title
-After Deed.State w old new = Unit {0}
-After Deed.Final w old new = Unit {0}
-After Deed.Head w old new = (new.head ≡ w) × (new.kids ≡ [])
-After Deed.Kid w old new = HasKid w old new
-After Deed.Arrow w old new = (new.kids ≡ old.kids) × IsAt new.symbols new.symbol (symbol_read old)
-After Deed.Parent w old new = Unit {0}
+abbrev pub After : Action → List ℕ → Store → Store → Type 0
+After Action.Plain w old new = new ≡ old
+After Action.Title w old new = Unit {0}
+After Action.OpName w old new = (new.head ≡ w) × (new.title ≡ old.title)
+After Action.OpRank w old new = new.title ≡ old.title
+After Action.State w old new = Unit {0}
+After Action.Final w old new = Unit {0}
+After Action.Head w old new = (new.head ≡ w) × (new.kids ≡ [])
+After Action.Kid w old new = HasKid w old new
+After Action.Arrow w old new = (new.kids ≡ old.kids) × IsAt new.symbols new.symbol (symbol_read old)
+After Action.Parent w old new = Unit {0}
 
 -- what has to be known of the bytes and of the store
-abbrev pub IsReady : Deed → Store → List ℕ → Type 0
-IsReady Deed.Plain s w = Unit {0}
-IsReady Deed.OpRank s w = IsName s.head × (are_digits w ≡ true)
-IsReady Deed.Arrow s w = IsName s.head × (length s.kids ≤ 32)
-IsReady deed s w = IsName w
+abbrev pub IsReady : Action → Store → List ℕ → Type 0
+IsReady Action.Plain s w = Unit {0}
+IsReady Action.OpRank s w = IsName s.head × (are_digits w ≡ true)
+IsReady Action.Arrow s w = IsName s.head × (length s.kids ≤ 32)
+IsReady action s w = IsName w
 
 abbrev pub item : Token → Role → Item
 item t role = record { token = t; role = role }
@@ -78,9 +78,9 @@ pub record Adds (old new : Store) (items : List Item) (x : Item) : Type 0 where
   pub within : (what : Limit) → ¬ IsOver what items x
 
 -- the token is taken
-pub record Takes (deed : Deed) (w : List ℕ) (old new : Store) : Type 0 where
-  pub adds : (items : List Item) (t : Token) (role : Role) → Says old deed w role → HasItems old items → Adds old new items (item t role)
-  pub after : After deed w old new
+pub record Takes (action : Action) (w : List ℕ) (old new : Store) : Type 0 where
+  pub adds : (items : List Item) (t : Token) (role : Role) → Says old action w role → HasItems old items → Adds old new items (item t role)
+  pub after : After action w old new
   pub grows : (i : ℕ) (n : List ℕ) → IsAt old.states i n → IsAt new.states i n
   pub few : IsFew new
 
@@ -90,8 +90,8 @@ pub record IsLeast (items : List Item) (x : Item) (what : Limit) : Type 0 where
   pub least : (other : Limit) → number_of other < number_of what → ¬ IsOver other items x
 
 -- the token is over this limit
-abbrev pub Passes : Deed → List ℕ → Store → Limit → Type 0
-Passes deed w old what = (items : List Item) (t : Token) (role : Role) → Says old deed w role → HasItems old items → IsLeast items (item t role) what
+abbrev pub Passes : Action → List ℕ → Store → Limit → Type 0
+Passes action w old what = (items : List Item) (t : Token) (role : Role) → Says old action w role → HasItems old items → IsLeast items (item t role) what
 
 abbrev pub limit_of : Counted → Limit
 limit_of Counted.Names = Names

@@ -32,7 +32,7 @@ fn turn(
     let Some(step) = next(stand, sight) else {
         return Err(TextError::Syntax { at: at as u64 });
     };
-    match tables.take(step.deed, &text[at..end]) {
+    match tables.take(step.action, &text[at..end]) {
         Ok(()) => Ok((gap_end(text, end), step.stand)),
         Err(Stop::Limit(what)) => Err(TextError::Limit {
             what,

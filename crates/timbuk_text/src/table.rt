@@ -58,7 +58,7 @@ pub enum Sight {
 
 /// What a token says.
 #[derive(Clone, Copy, Debug)]
-pub enum Deed {
+pub enum Action {
     /// Nothing.
     Plain,
     /// The automaton's name.
@@ -78,14 +78,14 @@ pub enum Deed {
 /// What to do at a token, and where the reader stands after it.
 #[derive(Clone, Copy, Debug)]
 pub struct Step {
-    pub deed: Deed,
+    pub action: Action,
     pub stand: Stand,
 }
 
-fn go(deed: Deed, stand: Stand) -> Option<Step>
-    ensures { result ≡ Some (record { deed = deed; stand = stand }) }
+fn go(action: Action, stand: Stand) -> Option<Step>
+    ensures { result ≡ Some (record { action = action; stand = stand }) }
 {
-    Some(Step { deed, stand })
+    Some(Step { action, stand })
 }
 
 fn next_in(part: Part, sight: Sight) -> Option<Step>
@@ -93,16 +93,16 @@ fn next_in(part: Part, sight: Sight) -> Option<Step>
 {
     match (part, sight) {
         (Part::States, Sight::Name | Sight::Digits) => {
-            go(Deed::State, Stand::Named(Part::States))
+            go(Action::State, Stand::Named(Part::States))
         }
-        (Part::States, Sight::Final) => go(Deed::Plain, Stand::Final),
+        (Part::States, Sight::Final) => go(Action::Plain, Stand::Final),
         (Part::Finals, Sight::Name | Sight::Digits) => {
-            go(Deed::Final, Stand::Named(Part::Finals))
+            go(Action::Final, Stand::Named(Part::Finals))
         }
-        (Part::Finals, Sight::Transitions) => go(Deed::Plain, Stand::In(Part::Rules)),
-        (Part::Kids, Sight::Comma) => go(Deed::Plain, Stand::Comma),
-        (Part::Kids, Sight::Close) => go(Deed::Plain, Stand::Close),
-        (Part::Rules, Sight::Name | Sight::Digits) => go(Deed::Head, Stand::Head),
+        (Part::Finals, Sight::Transitions) => go(Action::Plain, Stand::In(Part::Rules)),
+        (Part::Kids, Sight::Comma) => go(Action::Plain, Stand::Comma),
+        (Part::Kids, Sight::Close) => go(Action::Plain, Stand::Close),
+        (Part::Rules, Sight::Name | Sight::Digits) => go(Action::Head, Stand::Head),
         _ => None,
     }
 }
@@ -112,27 +112,27 @@ pub fn next(stand: Stand, sight: Sight) -> Option<Step>
     ensures { result ≡ next_at stand sight }
 {
     match (stand, sight) {
-        (Stand::Start, Sight::Ops) => go(Deed::Plain, Stand::Ops),
-        (Stand::Ops, Sight::Name | Sight::Digits) => go(Deed::OpName, Stand::OpName),
-        (Stand::Ops, Sight::Automaton) => go(Deed::Plain, Stand::Automaton),
-        (Stand::OpName, Sight::Colon) => go(Deed::Plain, Stand::OpColon),
-        (Stand::OpColon, Sight::Digits) => go(Deed::OpRank, Stand::Ops),
-        (Stand::Automaton, Sight::Name | Sight::Digits) => go(Deed::Title, Stand::Title),
+        (Stand::Start, Sight::Ops) => go(Action::Plain, Stand::Ops),
+        (Stand::Ops, Sight::Name | Sight::Digits) => go(Action::OpName, Stand::OpName),
+        (Stand::Ops, Sight::Automaton) => go(Action::Plain, Stand::Automaton),
+        (Stand::OpName, Sight::Colon) => go(Action::Plain, Stand::OpColon),
+        (Stand::OpColon, Sight::Digits) => go(Action::OpRank, Stand::Ops),
+        (Stand::Automaton, Sight::Name | Sight::Digits) => go(Action::Title, Stand::Title),
         (Stand::Automaton | Stand::Title, Sight::States) => {
-            go(Deed::Plain, Stand::In(Part::States))
+            go(Action::Plain, Stand::In(Part::States))
         }
-        (Stand::Final, Sight::States) => go(Deed::Plain, Stand::In(Part::Finals)),
-        (Stand::Head, Sight::Open) => go(Deed::Plain, Stand::Open),
-        (Stand::Head | Stand::Close, Sight::Pointer) => go(Deed::Arrow, Stand::Pointer),
+        (Stand::Final, Sight::States) => go(Action::Plain, Stand::In(Part::Finals)),
+        (Stand::Head, Sight::Open) => go(Action::Plain, Stand::Open),
+        (Stand::Head | Stand::Close, Sight::Pointer) => go(Action::Arrow, Stand::Pointer),
         (Stand::Open | Stand::Comma, Sight::Name | Sight::Digits) => {
-            go(Deed::Kid, Stand::Named(Part::Kids))
+            go(Action::Kid, Stand::Named(Part::Kids))
         }
-        (Stand::Open, Sight::Close) => go(Deed::Plain, Stand::Close),
+        (Stand::Open, Sight::Close) => go(Action::Plain, Stand::Close),
         (Stand::Pointer, Sight::Name | Sight::Digits) => {
-            go(Deed::Parent, Stand::Named(Part::Rules))
+            go(Action::Parent, Stand::Named(Part::Rules))
         }
-        (Stand::Named(part), Sight::Colon) => go(Deed::Plain, Stand::Colon(part)),
-        (Stand::Colon(part), Sight::Digits) => go(Deed::Plain, Stand::In(part)),
+        (Stand::Named(part), Sight::Colon) => go(Action::Plain, Stand::Colon(part)),
+        (Stand::Colon(part), Sight::Digits) => go(Action::Plain, Stand::In(part)),
         (Stand::In(part) | Stand::Named(part), sight) => next_in(part, sight),
         _ => None,
     }

@@ -14,7 +14,7 @@ ghost use Rattle.timbuk_text.specs.Reading.{automaton_of};
 ghost use Rattle.timbuk_text.specs.Taking.{Interns, InternsBy, IsFullBy, line_read};
 
 use crate::error::Counted;
-use crate::table::Deed;
+use crate::table::Action;
 use indexmap::IndexSet;
 use std::alloc::{AllocError, AllocFailed, Global};
 use std::hash::Hash;

@@ -154,3 +154,48 @@ fn names_have_at_most_1000_bytes(rt: HostRuntime) -> Result<(), AllocError> {
     }
     Ok(())
 }
+
+/// A file with the symbols `00000:0`, `00001:0` and so on, of which the first stands twice.
+fn file_with_symbols(alloc: Global, count: u32) -> Result<Vec<u8>, AllocError> {
+    let mut text = Vec::new(alloc);
+    text.extend_from_slice(b"Ops")?;
+    for number in 0..count {
+        text.push(b' ')?;
+        for unit in [10000, 1000, 100, 10, 1] {
+            text.push(b'0' + (number / unit % 10) as u8)?;
+        }
+        text.extend_from_slice(b":0")?;
+    }
+    text.extend_from_slice(b" 00000:0 Automaton States Final States Transitions")?;
+    Ok(text)
+}
+
+// Each symbol takes 8 bytes, so the digits of the one after 65,535 others stand at 3 + 8 * 65,535 + 7.
+#[test]
+fn files_have_at_most_65535_symbols(rt: HostRuntime) -> Result<(), AllocError> {
+    let alloc = rt.alloc();
+    for (count, fits) in [(65535, true), (65536, false)] {
+        let text = file_with_symbols(alloc, count)?;
+        let mut reader = Reader::new(alloc);
+        if text.len() < 1000000 {
+            reader.feed(&text)?;
+        }
+        match reader.finish() {
+            Ok(a) => {
+                assert!(rt; fits);
+                assert_eq!(rt; a.symbols().len(), 65535);
+            }
+            Err(error) => {
+                assert!(rt; !fits);
+                assert_eq!(rt;
+                    error,
+                    TextError::Limit {
+                        what: Counted::Symbols,
+                        at: 524290
+                    }
+                );
+            }
+        }
+    }
+    Ok(())
+}

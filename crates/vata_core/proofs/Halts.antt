@@ -8,42 +8,97 @@ use Rattle.vata_outside.specs.Outside.{File, IsMissing, Rose, Selects, bytes_of}
 use Rattle.tree_definitions.specs.Automaton.{Automaton}
 use Rattle.tree_definitions.specs.Relation.{IsAt}
 use Rattle.timbuk_definitions.specs.Place.{Limit as Count}
-use Rattle.timbuk_text.specs.declared.error.Counted.{Counted}
 use Rattle.timbuk_text.specs.Taking.{limit_of}
+use Rattle.tree_definitions.specs.Joint.{joint_symbols}
 use Rattle.vata_core.specs.Files.{AreSpelled, ComesTo, IsBadAt, IsFileOf, IsOverAt, IsRefused, IsSpelled, IsTooLong, Told}
-use Rattle.vata_core.specs.Outcome.{FailsToRead, IsLimited, TooLong, Over}
-use Rattle.vata_core.specs.Refusals.{IsHalted, refusal_line, refusal_status}
+use Rattle.vata_core.specs.Lines.{memory_line, read_line, syntax_line}
+use Rattle.vata_core.specs.Outcome.{AreWithin, FailsToRead, IsLimited, TooLong, Over, ManySymbols}
+use Rattle.vata_core.specs.Refusals.{IsCause, IsFileHalt, IsHaltAt, IsHalted, IsUnionHalt, halt_line, halt_status}
+use Rattle.vata_core.specs.declared.answering.Halt.{Halt}
+use Rattle.vata_core.specs.declared.answering.Halt.TheVariants as halt
 use Rattle.vata_core.specs.declared.loading.Refusal.{Refusal}
 use Rattle.vata_core.specs.declared.loading.Refusal.TheVariants as refusal
 use Rattle.vata_core.specs.declared.status.Status.TheVariants as status
-use Rattle.vata_core.proofs.Walk.{IsBad, IsOver, bad_not_over, bad_not_spelled, long_not_spelled, over_not_spelled, told_so}
+use Rattle.vata_core.proofs.Pieces.{rose_before}
+use Rattle.vata_core.proofs.Walk.{IsBad, IsOver, bad_not_over, bad_not_spelled, long_not_spelled, one_automaton, over_not_spelled, told_so}
 
 -- what holds of all that was read holds of the file of that name
 pub told_read : (files : Option (List File)) (name text : List ℕ) (left : Option (List ℕ)) (P : List ℕ → Type 0) → Selects files name left → IfSome left (λ bytes. text ≡ bytes) → P text → Told files name P
 told_read None name text left P s r p = tt
 told_read (Some fs) name text left P s r p = (s.0, s.1, subst P (subst (λ l. IfSome l (λ bytes. text ≡ bytes)) s.2 r) p)
 
--- why the only file gives no automaton
-pub only_file : (files : Option (List File)) (name : List ℕ) (before now : ℕ) (r : Refusal)
-    → ((at : ℕ) → r ≡ refusal.Syntax at → Told files name (IsBadAt at))
-    → ((what : Counted) (at : ℕ) → r ≡ refusal.Limit what at → Told files name (IsOverAt (limit_of what) at))
-    → (r ≡ refusal.TooLong → Told files name IsTooLong)
-    → (r ≡ refusal.ReadFault → Rose before now ⊎ IsMissing files name)
-    → IsHalted files (name ∷ []) before now 0 r
-only_file files name before now refusal.ReadFault s l t f = record { name = name; first = record { stands = refl; before = ([], tt) }; cause = f refl }
-only_file files name before now refusal.TooLong s l t f = record { name = name; first = record { stands = refl; before = ([], tt) }; reason = t refl }
-only_file files name before now (refusal.Syntax at) s l t f = record { name = name; first = record { stands = refl; before = ([], tt) }; reason = s at refl }
-only_file files name before now (refusal.Limit what at) s l t f = record { name = name; first = record { stands = refl; before = ([], tt) }; reason = l what at refl }
-only_file files name before now refusal.Memory s l t f = tt
+-- why the first file gives no automaton
+pub first_halt : (files : Option (List File)) (name : List ℕ) (names : List (List ℕ)) (before now : ℕ) (h : Halt) → IsFileHalt files name before now 0 h → IsHalted files (name ∷ names) before now h
+first_halt files name names before now (halt.File at r) h = subst (λ p. IsHaltAt files (name ∷ names) before now p r) (sym h.0) (stops r h.1)
+  where
+    stops : (r : Refusal) → IsCause files name before now r → IsHaltAt files (name ∷ names) before now 0 r
+    stops refusal.ReadFault c = record { name = name; first = record { stands = refl; before = ([], tt) }; cause = c }
+    stops refusal.TooLong c = record { name = name; first = record { stands = refl; before = ([], tt) }; reason = c }
+    stops (refusal.Syntax at) c = record { name = name; first = record { stands = refl; before = ([], tt) }; reason = c }
+    stops (refusal.Limit what at) c = record { name = name; first = record { stands = refl; before = ([], tt) }; reason = c }
+    stops refusal.Memory c = tt
+first_halt files name names before now halt.Symbols h = absurd h
+
+-- why the second file gives no automaton
+pub second_halt : (files : Option (List File)) (first name : List ℕ) (names : List (List ℕ)) (A : Automaton) (before then now : ℕ) (h : Halt) → IsSpelled files first A → before ≤ then
+    → IsFileHalt files name then now 1 h → IsHalted files (first ∷ name ∷ names) before now h
+second_halt files first name names A before then now (halt.File at r) s le h = subst (λ p. IsHaltAt files (first ∷ name ∷ names) before now p r) (sym h.0) (stops r h.1)
+  where
+    stops : (r : Refusal) → IsCause files name then now r → IsHaltAt files (first ∷ name ∷ names) before now 1 r
+    stops refusal.ReadFault c = record {
+      name = name;
+      first = record { stands = refl; before = (A ∷ [], (s, tt)) };
+      cause = elim c [ inl rose ↦ inl (rose_before before then now le rose) | inr missing ↦ inr missing ];
+    }
+    stops refusal.TooLong c = record { name = name; first = record { stands = refl; before = (A ∷ [], (s, tt)) }; reason = c }
+    stops (refusal.Syntax at) c = record { name = name; first = record { stands = refl; before = (A ∷ [], (s, tt)) }; reason = c }
+    stops (refusal.Limit what at) c = record { name = name; first = record { stands = refl; before = (A ∷ [], (s, tt)) }; reason = c }
+    stops refusal.Memory c = tt
+second_halt files first name names A before then now halt.Symbols s le h = absurd h
+
+-- why two automata have no union
+pub union_halt : (files : Option (List File)) (first second : List ℕ) (A B : Automaton) (before now : ℕ) (h : Halt) → IsSpelled files first A → IsSpelled files second B
+    → IsUnionHalt A B h → IsHalted files (first ∷ second ∷ []) before now h
+union_halt files first second A B before now (halt.File place r) s t h = subst (IsHaltAt files (first ∷ second ∷ []) before now place) (sym h) tt
+union_halt files first second A B before now halt.Symbols s t h = (A, B, (s, (t, tt)), h)
 
 -- what ends with status Limit is beyond a limit, and its line is told
-pub limited : (files : Option (List File)) (names : List (List ℕ)) (before now place : ℕ) (r : Refusal) → refusal_status r ≡ status.Limit → IsHalted files names before now place r
-    → IsLimited files names (refusal_line r place)
-limited files names before now place refusal.ReadFault e h = cc e
-limited files names before now place refusal.TooLong e h = TooLong place h
-limited files names before now place (refusal.Syntax at) e h = cc e
-limited files names before now place (refusal.Limit what at) e h = Over place (limit_of what) at h
-limited files names before now place refusal.Memory e h = cc e
+pub limited : (files : Option (List File)) (names : List (List ℕ)) (before now : ℕ) (h : Halt) → halt_status h ≡ status.Limit → IsHalted files names before now h → IsLimited files names (halt_line h)
+limited files names before now (halt.File place refusal.ReadFault) e h = cc e
+limited files names before now (halt.File place refusal.TooLong) e h = TooLong place h
+limited files names before now (halt.File place (refusal.Syntax at)) e h = cc e
+limited files names before now (halt.File place (refusal.Limit what at)) e h = Over place (limit_of what) at h
+limited files names before now (halt.File place refusal.Memory) e h = cc e
+limited files names before now halt.Symbols e h = ManySymbols h.0 h.1 h.2 h.3
+
+-- what ends with status Syntax is a file with a bad place, which is told
+pub bad_file : (files : Option (List File)) (names : List (List ℕ)) (before now : ℕ) (h : Halt) → halt_status h ≡ status.Syntax → IsHalted files names before now h
+    → (place : ℕ) × (at : ℕ) × IsRefused files names (IsBadAt at) place × (halt_line h ≡ syntax_line place at)
+bad_file files names before now (halt.File place refusal.ReadFault) e h = cc e
+bad_file files names before now (halt.File place refusal.TooLong) e h = cc e
+bad_file files names before now (halt.File place (refusal.Syntax at)) e h = (place, at, h, refl)
+bad_file files names before now (halt.File place (refusal.Limit what at)) e h = cc e
+bad_file files names before now (halt.File place refusal.Memory) e h = cc e
+bad_file files names before now halt.Symbols e h = cc e
+
+-- what ends with status ReadFault is a file that can't be read, which is told
+pub unread_file : (files : Option (List File)) (names : List (List ℕ)) (before now : ℕ) (h : Halt) → halt_status h ≡ status.ReadFault → IsHalted files names before now h
+    → (place : ℕ) × FailsToRead files names before now place × (halt_line h ≡ read_line place)
+unread_file files names before now (halt.File place refusal.ReadFault) e h = (place, h, refl)
+unread_file files names before now (halt.File place refusal.TooLong) e h = cc e
+unread_file files names before now (halt.File place (refusal.Syntax at)) e h = cc e
+unread_file files names before now (halt.File place (refusal.Limit what at)) e h = cc e
+unread_file files names before now (halt.File place refusal.Memory) e h = cc e
+unread_file files names before now halt.Symbols e h = cc e
+
+-- what ends with status Memory tells that
+pub memory_told : (h : Halt) → halt_status h ≡ status.Memory → halt_line h ≡ memory_line
+memory_told (halt.File place refusal.ReadFault) e = cc e
+memory_told (halt.File place refusal.TooLong) e = cc e
+memory_told (halt.File place (refusal.Syntax at)) e = cc e
+memory_told (halt.File place (refusal.Limit what at)) e = cc e
+memory_told (halt.File place refusal.Memory) e = refl
+memory_told halt.Symbols e = cc e
 
 module _ (fs : List File) where
   spelled_before : (names : List (List ℕ)) (As : List Automaton) (p q : ℕ) (name : List ℕ) → IsAt names p name → p < q → AreSpelled (Some fs) (take q names) As → (A : Automaton) × IsSpelled (Some fs) name A
@@ -144,38 +199,67 @@ module _ (fs : List File) where
     bad_or_lost : Stop Bad → Stop Lost → ⊥
     bad_or_lost = clash Bad Lost (λ name b m. cc (m, b.1)) bad_ends lost_ends
 
-    -- where a file is at fault, that is told
-    pub syntax_due : (place at before now there : ℕ) (r : Refusal) → IsRefused (Some fs) names (IsBadAt at) place → ¬ Rose before now → IsHalted (Some fs) names before now there r
-        → (refusal_status r ≡ status.Syntax) ⊎ (refusal_status r ≡ status.Memory)
-    syntax_due place at before now there refusal.ReadFault f calm h = absurd (bad_or_lost (bad_stop place at f) (lost_stop before now there calm h))
-    syntax_due place at before now there refusal.TooLong f calm h = absurd (long_or_bad (long_stop there h) (bad_stop place at f))
-    syntax_due place at before now there (refusal.Syntax p) f calm h = inl refl
-    syntax_due place at before now there (refusal.Limit what p) f calm h = absurd (past_or_bad (past_stop there (limit_of what) p h) (bad_stop place at f))
-    syntax_due place at before now there refusal.Memory f calm h = inr refl
+    -- the files spell one list of automata
+    same_automata : (ns : List (List ℕ)) (As Bs : List Automaton) → AreSpelled (Some fs) ns As → AreSpelled (Some fs) ns Bs → As ≡ Bs
+    same_automata [] [] [] s t = refl
+    same_automata [] [] (B ∷ Bs) s t = absurd t
+    same_automata [] (A ∷ As) Bs s t = absurd s
+    same_automata (n ∷ ns) [] Bs s t = absurd s
+    same_automata (n ∷ ns) (A ∷ As) [] s t = absurd t
+    same_automata (n ∷ ns) (A ∷ As) (B ∷ Bs) s t =
+        let both = told_both n (IsFileOf A) (IsFileOf B) s.0 t.0 in
+        ap (λ x. x ∷ As) (one_automaton both.0 A B both.1 both.2) ∙ ap (λ xs. B ∷ xs) (same_automata ns As Bs s.1 t.1)
 
-    -- where a file is beyond a limit, that is told
-    pub limit_due : (line : List ℕ) (before now there : ℕ) (r : Refusal) → IsLimited (Some fs) names line → ¬ Rose before now → IsHalted (Some fs) names before now there r
-        → (refusal_status r ≡ status.Limit) ⊎ (refusal_status r ≡ status.Memory)
-    limit_due line before now there refusal.ReadFault (TooLong place f) calm h = absurd (long_or_lost (long_stop place f) (lost_stop before now there calm h))
-    limit_due line before now there refusal.ReadFault (Over place what at f) calm h = absurd (past_or_lost (past_stop place what at f) (lost_stop before now there calm h))
-    limit_due line before now there refusal.TooLong f calm h = inl refl
-    limit_due line before now there (refusal.Syntax p) (TooLong place f) calm h = absurd (long_or_bad (long_stop place f) (bad_stop there p h))
-    limit_due line before now there (refusal.Syntax p) (Over place what at f) calm h = absurd (past_or_bad (past_stop place what at f) (bad_stop there p h))
-    limit_due line before now there (refusal.Limit what p) f calm h = inl refl
-    limit_due line before now there refusal.Memory f calm h = inr refl
+    too_many : (As : List Automaton) (A B : Automaton) → AreSpelled (Some fs) names As → AreWithin As → AreSpelled (Some fs) names (A ∷ B ∷ []) → ¬ (65535 < length (joint_symbols A.symbols B.symbols))
+    too_many As A B s within t many =
+        let few : AreWithin (A ∷ B ∷ []) = subst AreWithin (same_automata names As (A ∷ B ∷ []) s t) within in
+        omega (arith, few, many)
 
-    -- where each file spells an automaton, only memory can be wanting
-    pub nothing_wrong : (before now there : ℕ) (r : Refusal) (As : List Automaton) → AreSpelled (Some fs) names As → ¬ Rose before now → IsHalted (Some fs) names before now there r → refusal_status r ≡ status.Memory
-    nothing_wrong before now there refusal.ReadFault As s calm h = absurd (ends_none Lost lost_ends As s (lost_stop before now there calm h))
-    nothing_wrong before now there refusal.TooLong As s calm h = absurd (ends_none Long long_ends As s (long_stop there h))
-    nothing_wrong before now there (refusal.Syntax p) As s calm h = absurd (ends_none Bad bad_ends As s (bad_stop there p h))
-    nothing_wrong before now there (refusal.Limit what p) As s calm h = absurd (ends_none Past past_ends As s (past_stop there (limit_of what) p h))
-    nothing_wrong before now there refusal.Memory As s calm h = refl
-
-    -- where each file spells an automaton, none is at fault or beyond a limit
+    -- where each file spells an automaton, none has a bad place
     pub bad_or_spelled : (As : List Automaton) (place at : ℕ) → AreSpelled (Some fs) names As → IsRefused (Some fs) names (IsBadAt at) place → ⊥
     bad_or_spelled As place at s f = ends_none Bad bad_ends As s (bad_stop place at f)
 
-    pub limited_or_spelled : (As : List Automaton) (line : List ℕ) → AreSpelled (Some fs) names As → IsLimited (Some fs) names line → ⊥
-    limited_or_spelled As line s (TooLong place f) = ends_none Long long_ends As s (long_stop place f)
-    limited_or_spelled As line s (Over place what at f) = ends_none Past past_ends As s (past_stop place what at f)
+    -- where each file spells an automaton and the command's limits are kept, none is passed
+    pub limited_or_spelled : (As : List Automaton) (line : List ℕ) → AreSpelled (Some fs) names As → AreWithin As → IsLimited (Some fs) names line → ⊥
+    limited_or_spelled As line s within (TooLong place f) = ends_none Long long_ends As s (long_stop place f)
+    limited_or_spelled As line s within (Over place what at f) = ends_none Past past_ends As s (past_stop place what at f)
+    limited_or_spelled As line s within (ManySymbols A B t many) = too_many As A B s within t many
+
+    -- where a file is at fault, that is told
+    pub syntax_due : (place at before now : ℕ) (h : Halt) → IsRefused (Some fs) names (IsBadAt at) place → ¬ Rose before now → IsHalted (Some fs) names before now h
+        → (halt_status h ≡ status.Syntax) ⊎ (halt_status h ≡ status.Memory)
+    syntax_due place at before now (halt.File there refusal.ReadFault) f calm h = absurd (bad_or_lost (bad_stop place at f) (lost_stop before now there calm h))
+    syntax_due place at before now (halt.File there refusal.TooLong) f calm h = absurd (long_or_bad (long_stop there h) (bad_stop place at f))
+    syntax_due place at before now (halt.File there (refusal.Syntax p)) f calm h = inl refl
+    syntax_due place at before now (halt.File there (refusal.Limit what p)) f calm h = absurd (past_or_bad (past_stop there (limit_of what) p h) (bad_stop place at f))
+    syntax_due place at before now (halt.File there refusal.Memory) f calm h = inr refl
+    syntax_due place at before now halt.Symbols f calm h = absurd (bad_or_spelled (h.0 ∷ h.1 ∷ []) place at h.2 f)
+
+    limited_or_lost : (line : List ℕ) → IsLimited (Some fs) names line → Stop Lost → ⊥
+    limited_or_lost line (TooLong place f) l = long_or_lost (long_stop place f) l
+    limited_or_lost line (Over place what at f) l = past_or_lost (past_stop place what at f) l
+    limited_or_lost line (ManySymbols A B s many) l = ends_none Lost lost_ends (A ∷ B ∷ []) s l
+
+    limited_or_bad : (line : List ℕ) → IsLimited (Some fs) names line → Stop Bad → ⊥
+    limited_or_bad line (TooLong place f) b = long_or_bad (long_stop place f) b
+    limited_or_bad line (Over place what at f) b = past_or_bad (past_stop place what at f) b
+    limited_or_bad line (ManySymbols A B s many) b = ends_none Bad bad_ends (A ∷ B ∷ []) s b
+
+    -- where a limit is passed, that is told
+    pub limit_due : (line : List ℕ) (before now : ℕ) (h : Halt) → IsLimited (Some fs) names line → ¬ Rose before now → IsHalted (Some fs) names before now h
+        → (halt_status h ≡ status.Limit) ⊎ (halt_status h ≡ status.Memory)
+    limit_due line before now (halt.File there refusal.ReadFault) f calm h = absurd (limited_or_lost line f (lost_stop before now there calm h))
+    limit_due line before now (halt.File there refusal.TooLong) f calm h = inl refl
+    limit_due line before now (halt.File there (refusal.Syntax p)) f calm h = absurd (limited_or_bad line f (bad_stop there p h))
+    limit_due line before now (halt.File there (refusal.Limit what p)) f calm h = inl refl
+    limit_due line before now (halt.File there refusal.Memory) f calm h = inr refl
+    limit_due line before now halt.Symbols f calm h = inl refl
+
+    -- where each file spells an automaton and the command's limits are kept, only memory can be wanting
+    pub nothing_wrong : (before now : ℕ) (h : Halt) (As : List Automaton) → AreSpelled (Some fs) names As → AreWithin As → ¬ Rose before now → IsHalted (Some fs) names before now h → halt_status h ≡ status.Memory
+    nothing_wrong before now (halt.File there refusal.ReadFault) As s within calm h = absurd (ends_none Lost lost_ends As s (lost_stop before now there calm h))
+    nothing_wrong before now (halt.File there refusal.TooLong) As s within calm h = absurd (ends_none Long long_ends As s (long_stop there h))
+    nothing_wrong before now (halt.File there (refusal.Syntax p)) As s within calm h = absurd (ends_none Bad bad_ends As s (bad_stop there p h))
+    nothing_wrong before now (halt.File there (refusal.Limit what p)) As s within calm h = absurd (ends_none Past past_ends As s (past_stop there (limit_of what) p h))
+    nothing_wrong before now (halt.File there refusal.Memory) As s within calm h = refl
+    nothing_wrong before now halt.Symbols As s within calm h = absurd (too_many As h.0 h.1 s within h.2 h.3)

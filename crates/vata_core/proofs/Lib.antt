@@ -4,3 +4,4 @@ pub mod Pieces
 pub mod Walk
 pub mod Reasons
 pub mod Halts
+pub mod Orders

@@ -30,6 +30,9 @@ limit_words Rules = codes " rules at "
 unfoldable pub limit_line : ℕ → Limit → ℕ → List ℕ
 limit_line place what at = codes "limit: file " ++ file_number place ++ limit_words what ++ decimal at ++ codes "\n"
 
+unfoldable pub symbols_line : List ℕ
+symbols_line = codes "limit: symbols\n"
+
 unfoldable pub read_line : ℕ → List ℕ
 read_line place = codes "read fault: file " ++ file_number place ++ codes "\n"
 

@@ -1,15 +1,22 @@
 -- What is told of files that give no answer.
-use Rattle.std.specs.Prelude.{◌≡◌, ◌⊎◌, ℕ, ◌<◌, List}
+use Rattle.std.specs.Prelude.{◌≡◌, ◌⊎◌, ℕ, ◌<◌, List, [], ◌∷◌, length}
 use Rattle.std.specs.declared.option.Option.{Option}
 use Rattle.vata_outside.specs.Outside.{File, IsMissing, Rose}
 use Rattle.tree_definitions.specs.Automaton.{Automaton}
 use Rattle.witness_trees.specs.Judged.{BadAt, UnknownAt}
 use Rattle.vata_core.specs.CheckRequest.{CheckRequest, all_of, automata_of}
 use Rattle.timbuk_text.specs.Taking.{limit_of}
-use Rattle.vata_core.specs.Files.{IsBadAt, IsOverAt, IsRefused, IsTooLong, Told}
-use Rattle.vata_core.specs.Lines.{bytes_line, limit_line, memory_line, name_line, read_line, syntax_line}
+use Rattle.vata_core.specs.Files.{AreSpelled, IsBadAt, IsOverAt, IsRefused, IsTooLong, Told}
+use Rattle.tree_definitions.specs.Joint.{joint_symbols}
+use Rattle.vata_core.specs.Lines.{bytes_line, limit_line, memory_line, name_line, read_line, symbols_line, syntax_line}
 use Rattle.vata_core.specs.NoCertificate.{IsNoCertificate, IsReadAs, IsTooLongAt}
-use Rattle.vata_core.specs.Outcome.{FailsToRead}
+use Rattle.vata_core.specs.Outcome.{AreWithin, FailsToRead, HasAnswer}
+use Rattle.vata_core.specs.Answer.{Answer, answer_text}
+use Rattle.vata_core.specs.Request.{Request, Load, Union}
+use Rattle.vata_core.specs.declared.answering.Halt.{Halt}
+use Rattle.vata_core.specs.declared.answering.Halt.TheVariants as halt
+use Rattle.vata_core.specs.declared.words.Task.{Task}
+use Rattle.vata_core.specs.declared.words.Task.TheVariants as task
 use Rattle.vata_core.specs.declared.judging.Unjudged.{Unjudged}
 use Rattle.vata_core.specs.declared.judging.Unjudged.TheVariants.{BadText, UnknownName}
 use Rattle.vata_core.specs.declared.judging.Unjudged.TheVariants as unjudged
@@ -46,13 +53,55 @@ reason_status (unjudged.File place r) = refusal_status r
 reason_status (BadText at) = status.Syntax
 reason_status (UnknownName at) = status.Syntax
 
--- why a run over files of automata has no answer: the file at this place gives none
-abbrev pub IsHalted : Option (List File) → List (List ℕ) → (before now : ℕ) → ℕ → Refusal → Type 0
-IsHalted files names before now place refusal.ReadFault = FailsToRead files names before now place
-IsHalted files names before now place refusal.TooLong = IsRefused files names IsTooLong place
-IsHalted files names before now place (refusal.Syntax at) = IsRefused files names (IsBadAt at) place
-IsHalted files names before now place (refusal.Limit what at) = IsRefused files names (IsOverAt (limit_of what) at) place
-IsHalted files names before now place refusal.Memory = Unit {0}
+-- why the file of that name gives no automaton
+abbrev pub IsCause : Option (List File) → List ℕ → (before now : ℕ) → Refusal → Type 0
+IsCause files name before now refusal.ReadFault = Rose before now ⊎ IsMissing files name
+IsCause files name before now refusal.TooLong = Told files name IsTooLong
+IsCause files name before now (refusal.Syntax at) = Told files name (IsBadAt at)
+IsCause files name before now (refusal.Limit what at) = Told files name (IsOverAt (limit_of what) at)
+IsCause files name before now refusal.Memory = Unit {0}
+
+abbrev pub IsFileHalt : Option (List File) → List ℕ → (before now : ℕ) → ℕ → Halt → Type 0
+IsFileHalt files name before now place (halt.File at r) = (at ≡ place) × IsCause files name before now r
+IsFileHalt files name before now place halt.Symbols = ⊥
+
+-- the file at this place, before which all spell automata, gives none
+abbrev pub IsHaltAt : Option (List File) → List (List ℕ) → (before now : ℕ) → ℕ → Refusal → Type 0
+IsHaltAt files names before now place refusal.ReadFault = FailsToRead files names before now place
+IsHaltAt files names before now place refusal.TooLong = IsRefused files names IsTooLong place
+IsHaltAt files names before now place (refusal.Syntax at) = IsRefused files names (IsBadAt at) place
+IsHaltAt files names before now place (refusal.Limit what at) = IsRefused files names (IsOverAt (limit_of what) at) place
+IsHaltAt files names before now place refusal.Memory = Unit {0}
+
+-- why a run over files of automata has no answer
+abbrev pub IsHalted : Option (List File) → List (List ℕ) → (before now : ℕ) → Halt → Type 0
+IsHalted files names before now (halt.File place r) = IsHaltAt files names before now place r
+IsHalted files names before now halt.Symbols = (A : Automaton) × (B : Automaton) × AreSpelled files names (A ∷ B ∷ []) × (65535 < length (joint_symbols A.symbols B.symbols))
+
+-- why two automata have no union
+abbrev pub IsUnionHalt : Automaton → Automaton → Halt → Type 0
+IsUnionHalt A B (halt.File place r) = r ≡ refusal.Memory
+IsUnionHalt A B halt.Symbols = 65535 < length (joint_symbols A.symbols B.symbols)
+
+abbrev pub halt_line : Halt → List ℕ
+halt_line (halt.File place r) = refusal_line r place
+halt_line halt.Symbols = symbols_line
+
+abbrev pub halt_status : Halt → Status
+halt_status (halt.File place r) = refusal_status r
+halt_status halt.Symbols = status.Limit
+
+-- what a task asks for
+abbrev pub request_for : Task → Request
+request_for (task.Load trim file) = Load trim file.now
+request_for (task.Union trim first second) = Union trim first.now second.now
+
+-- the text is that of a right answer, and its automata keep the limits of a command
+pub record HasText (files : Option (List File)) (request : Request) (bytes : List ℕ) : Type 0 where
+  pub answer : Answer
+  pub right : HasAnswer files request answer
+  pub within : AreWithin right.automata
+  pub text : bytes ≡ answer_text answer
 
 -- why the file of that name, which is at a place, gives nothing. The first two hold automata
 abbrev pub IsReason : Option (List File) → List ℕ → (before now : ℕ) → ℕ → Refusal → Type 0

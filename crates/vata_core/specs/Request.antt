@@ -1,5 +1,5 @@
 -- What the words of a command line ask for.
-use Rattle.std.specs.Prelude.{ℕ, Bool, true, false, List, [], ◌∷◌, Option, None, Some, Result, Ok, Err, unwrap_or, slice_get}
+use Rattle.std.specs.Prelude.{ℕ, Bool, List, [], ◌∷◌, Option, None, Some, Result, Ok, Err, unwrap_or, slice_get}
 use Rattle.vata_words.specs.Requests.{request_in}
 use Rattle.vata_words.specs.declared.request.Encoding.{Encoding}
 use Rattle.vata_words.specs.declared.request.Encoding.TheVariants.{Expl, Bdd}
@@ -8,28 +8,29 @@ use Rattle.vata_words.specs.declared.request.Request.{Request as Asked}
 use Rattle.vata_words.specs.declared.request.WordFault.{WordFault}
 use Rattle.vata_core.specs.Usage.{fault_line, not_built_line}
 
--- print the canonical text of a file's automaton
+-- what is to be printed: the canonical text of a file's automaton or of the union of two, trimmed or not
 pub data Request : Type 0 where
-  Load : (file : List ℕ) → Request
+  Load : (trim : Bool) (file : List ℕ) → Request
+  Union : (trim : Bool) (first second : List ℕ) → Request
 
 -- the names of the files that are read, in order
 abbrev pub files_of : Request → List (List ℕ)
-files_of (Load file) = file ∷ []
+files_of (Load trim file) = file ∷ []
+files_of (Union trim first second) = first ∷ second ∷ []
 
 -- the word at a place
 abbrev pub word_at : List (List ℕ) → ℕ → List ℕ
 word_at words place = unwrap_or (slice_get words place) []
 
--- `load` is built for rules that are kept explicitly, without a trim
-abbrev pub built_load : Encoding → Bool → List ℕ → Option Request
-built_load Expl false file = Some (Load file)
-built_load Expl true file = None
-built_load Bdd trim file = None
+-- requests are built for rules that are kept explicitly
+abbrev pub when_explicit : Encoding → Request → Option Request
+when_explicit Expl request = Some request
+when_explicit Bdd request = None
 
 -- what is built of what may be asked for
 abbrev pub built : List (List ℕ) → Asked → Option Request
-built words (asks.Load encoding trim file) = built_load encoding trim (word_at words file)
-built words (asks.Union encoding trim first second) = None
+built words (asks.Load encoding trim file) = when_explicit encoding (Load trim (word_at words file))
+built words (asks.Union encoding trim first second) = when_explicit encoding (Union trim (word_at words first) (word_at words second))
 built words (asks.Isect encoding trim first second) = None
 built words (asks.Sim encoding dir file) = None
 built words (asks.Red encoding file) = None

@@ -2,6 +2,7 @@
 //! written and the status.
 #![tactic(auto)]
 
+mod answering;
 mod checking;
 mod judging;
 mod loading;

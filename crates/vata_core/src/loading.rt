@@ -3,6 +3,7 @@
 ghost use Rattle.std.specs.Prelude.{◌≡◌, ◌⊎◌, ◌<◌, ◌≤◌, ◌+◌, ℕ, false, length, take, vec_len, IfOk, IfSome, IsErrOf};
 ghost use Rattle.std.specs.Io.KnownBytes.{Consumes, IsAtEnd, ReadConsumes};
 ghost use Rattle.vata_outside.specs.Outside.{HasCause, IsMissing, Rose};
+ghost use Rattle.timbuk_definitions.specs.Place.{IsSmall};
 ghost use Rattle.timbuk_text.specs.Taking.{limit_of};
 ghost use Rattle.vata_core.specs.Files.{IsBadAt, IsOverAt, IsSpelled, IsTooLong, Told};
 ghost use Rattle.vata_core.specs.NoCertificate.{IsTooLongAt};
@@ -164,6 +165,7 @@ pub fn certificate_text_of<F: Files>(
 /// The automaton of a file.
 pub fn automaton_of<F: Files>(alloc: Global, files: &mut F, name: &str) -> Result<Listed, Refusal>
     ensures ok { IfOk result (λ a. IsSpelled (F.files files.old) name.now a) }
+    ensures small { IfOk result IsSmall }
     ensures same { F.files files.new ≡ F.files files.old }
     ensures syntax { (at : ℕ) → IsErrOf result (Refusal.Syntax at) → Told (F.files files.old) name.now (IsBadAt at) }
     ensures limit { (what : Counted) (at : ℕ) → IsErrOf result (Refusal.Limit what at) →

@@ -10,38 +10,17 @@ ghost use Rattle.timbuk_text.specs.Taking.{limit_of};
 ghost use Rattle.vata_core.specs.Request.{Request, files_of, request_of, usage_line};
 ghost use Rattle.vata_core.specs.Files.{AreSpelled, IsBadAt, IsOverAt, IsRefused, IsSpelled, IsTooLong, Told};
 ghost use Rattle.vata_core.specs.Lines.{Tells, memory_line, read_line, syntax_line, write_line};
-ghost use Rattle.vata_core.specs.Outcome.{Answers, AnswersInPart, FailsToRead, IsAnswered, IsLimited, IsSilent};
-ghost use Rattle.vata_core.specs.Refusals.{IsHalted, refusal_status};
+ghost use Rattle.vata_core.specs.Outcome.{Answers, AnswersInPart, AreWithin, FailsToRead, IsAnswered, IsLimited, IsSilent};
+ghost use Rattle.vata_core.specs.Refusals.{halt_status, refusal_status};
 
-use crate::loading::{Refusal, automaton_of};
+use crate::answering::{Halt, answer_to};
+use crate::loading::Refusal;
 use crate::status::Status;
-use crate::telling::{tell_refusal, tell_untaken, tell_write_fault};
-use crate::words::file_to_load;
+use crate::telling::{tell_halt, tell_untaken, tell_write_fault};
+use crate::words::task_of;
 use std::alloc::Global;
 use timbuk_text::Counted;
 use vata_outside::{Files, Sink, write_all_of};
-
-/// The text to print for a file's automaton.
-fn text_to_load<F: Files>(alloc: Global, name: &str, files: &mut F) -> Result<Vec<u8>, Refusal>
-    ensures ok { IfOk result (λ text. (a : Automaton) × IsSpelled (F.files files.old) name.now a × (text.items ≡ plain_text (canon a))) }
-    ensures syntax { (at : ℕ) → IsErrOf result (Refusal.Syntax at) → Told (F.files files.old) name.now (IsBadAt at) }
-    ensures limit { (what : Counted) (at : ℕ) → IsErrOf result (Refusal.Limit what at) →
-        Told (F.files files.old) name.now (IsOverAt (limit_of what) at) }
-    ensures long { IsErrOf result Refusal.TooLong → Told (F.files files.old) name.now IsTooLong }
-    ensures later { F.faults files.old ≤ F.faults files.new }
-    ensures fault { IsErrOf result Refusal.ReadFault →
-        Rose (F.faults files.old) (F.faults files.new) ⊎ IsMissing (F.files files.old) name.now }
-    ensures err { IfErr result (IsHalted (F.files files.old) (name.now ∷ []) (F.faults files.old) (F.faults files.new) 0) }
-{
-    let a = match automaton_of(alloc, files, name) {
-        Ok(a) => a,
-        Err(refusal) => return Err(refusal),
-    };
-    match timbuk_text::print(&a) {
-        Ok(text) => Ok(text),
-        Err(_) => Err(Refusal::Memory),
-    }
-}
 
 pub fn status_of(refusal: Refusal) -> Status
     ensures { result ≡ refusal_status refusal }
@@ -52,6 +31,15 @@ pub fn status_of(refusal: Refusal) -> Status
         Refusal::Syntax { .. } => Status::Syntax,
         Refusal::Limit { .. } => Status::Limit,
         Refusal::Memory => Status::Memory,
+    }
+}
+
+fn halted(halt: Halt) -> Status
+    ensures { result ≡ halt_status halt }
+{
+    match halt {
+        Halt::File { refusal, .. } => status_of(refusal),
+        Halt::Symbols => Status::Limit,
     }
 }
 
@@ -103,24 +91,25 @@ pub fn run<F: Files, K: Sink, E: Sink>(
         → F.files files.old ≡ Some fs → IsLimited (Some fs) (files_of request) line
         → ¬ Rose (F.faults files.old) (F.faults files.new) → (result ≡ Status.Limit) ⊎ (result ≡ Status.Memory) }
 
-    // Where each file spells an automaton and nothing fails, the answer is written, unless memory runs out.
+    // Where each file spells an automaton, no limit is passed and nothing fails, the answer is written,
+    // unless memory runs out.
     ensures complete { (request : Request) (fs : List File) (As : List Automaton) → request_of (map string_bytes words.now) ≡ Some request
-        → F.files files.old ≡ Some fs → AreSpelled (Some fs) (files_of request) As
+        → F.files files.old ≡ Some fs → AreSpelled (Some fs) (files_of request) As → AreWithin As
         → ¬ Rose (F.faults files.old) (F.faults files.new) → ¬ Rose (K.faults out.old) (K.faults out.new)
         → IsAnswered result ⊎ (result ≡ Status.Memory) }
 {
-    let name = match file_to_load(words) {
-        Ok(name) => name,
+    let task = match task_of(words) {
+        Ok(task) => task,
         Err(untaken) => {
             tell_untaken(diag, untaken);
             return Status::Usage;
         }
     };
-    let text = match text_to_load(alloc, name, files) {
+    let text = match answer_to(alloc, files, task) {
         Ok(text) => text,
-        Err(refusal) => {
-            tell_refusal(diag, 0, refusal);
-            return status_of(refusal);
+        Err(halt) => {
+            tell_halt(diag, halt);
+            return halted(halt);
         }
     };
     match write_all_of(out, &text) {

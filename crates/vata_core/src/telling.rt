@@ -5,10 +5,11 @@ ghost use Rattle.std.specs.Fmt.{decimal};
 ghost use Rattle.std.specs.Io.KnownBytes.{Appends};
 ghost use Rattle.vata_outside.specs.Outside.{AppendsPrefix, Rose};
 ghost use Rattle.timbuk_text.specs.Taking.{limit_of};
-ghost use Rattle.vata_core.specs.Lines.{Tells, bytes_line, limit_line, limit_words, memory_line, name_line, read_line, syntax_line, write_line};
-ghost use Rattle.vata_core.specs.Refusals.{reason_line, refusal_line, untaken_line};
+ghost use Rattle.vata_core.specs.Lines.{Tells, bytes_line, limit_line, limit_words, memory_line, name_line, read_line, symbols_line, syntax_line, write_line};
+ghost use Rattle.vata_core.specs.Refusals.{halt_line, reason_line, refusal_line, untaken_line};
 ghost use Rattle.vata_core.specs.Usage.{fault_line, not_built_line};
 
+use crate::answering::Halt;
 use crate::judging::Unjudged;
 use crate::loading::Refusal;
 use crate::words::Untaken;
@@ -215,6 +216,23 @@ fn tell_name<E: Sink>(diag: &mut E, at: u64)
     ensures { Tells (E.written diag.old) (E.written diag.new) (E.faults diag.old) (E.faults diag.new) (name_line at) }
 {
     tell_number(diag, b"name: file 3 at ", at, b"\n");
+}
+
+#[tactic(auto, unfolding(crate::specs::Lines::symbols_line))]
+fn symbols() -> &'static [u8]
+    ensures { result.now ≡ symbols_line }
+{
+    b"limit: symbols\n".as_slice()
+}
+
+/// Tells why a run has no answer.
+pub fn tell_halt<E: Sink>(diag: &mut E, halt: Halt)
+    ensures { Tells (E.written diag.old) (E.written diag.new) (E.faults diag.old) (E.faults diag.new) (halt_line halt) }
+{
+    match halt {
+        Halt::File { place, refusal } => tell_refusal(diag, place, refusal),
+        Halt::Symbols => tell(diag, symbols()),
+    }
 }
 
 /// Tells why there is nothing to judge.

@@ -1,9 +1,15 @@
 //! Whole runs over files and sinks in memory.
 
-ghost use Rattle.std.specs.Prelude.{◌<◌};
+ghost use Rattle.std.specs.Prelude.{◌<◌, IfOk};
+ghost use Rattle.timbuk_definitions.specs.Place.{IsSmall};
 
+use crate::loading::automaton_of;
 use crate::{Status, check_run, run};
+use bool_ops::isect;
+use explicit_ta::ExplicitPair;
 use std::alloc::{AllocError, Global};
+use ta_model::Listed;
+use timbuk_text::print;
 use vata_outside::{MemFiles, MemSink};
 
 const ALL: &[u8] =
@@ -254,8 +260,8 @@ fn words_that_are_not_taken(rt: HostRuntime) -> Result<(), AllocError> {
         ),
         ("-p -p load file", b"usage: repeated 2\n".as_slice()),
         ("bench 0", b"usage: bad setting 2\n".as_slice()),
-        ("load -p file", b"usage: not built yet\n".as_slice()),
-        ("union file file", b"usage: not built yet\n".as_slice()),
+        ("load -r bdd file", b"usage: not built yet\n".as_slice()),
+        ("sim file", b"usage: not built yet\n".as_slice()),
     ] {
         let ran = run_over(alloc, words, ALL, 1_000, Vec::new(alloc), Vec::new(alloc))?;
         assert_eq!(rt; ran.status, Status::Usage, "{words}");
@@ -514,5 +520,133 @@ fn faults_of_a_check_are_told(rt: HostRuntime) -> Result<(), AllocError> {
         assert_eq!(rt; ran.out.bytes(), out, "{words}");
         assert_eq!(rt; ran.diag.bytes(), diag, "{words}");
     }
+    Ok(())
+}
+
+const ALL2: &[u8] =
+    b"Ops a:0 f:2\nAutomaton all\nStates q u\nFinal States q\nTransitions\na -> q\nf(q,q) -> q\n";
+
+/// A file whose state u no tree reaches, and whose state w leads to a final one with u as its sibling alone.
+const SIBLING: &[u8] =
+    b"Ops a:0 f:2\nAutomaton t\nStates q u w r\nFinal States r\nTransitions\na -> q\na -> w\nf(q,q) -> r\nf(w,u) -> r\n";
+
+const DOUBLE: &[u8] =
+    b"Ops a:0 f:2\nAutomaton union\nStates q_1 q_2\nFinal States q_1 q_2\nTransitions\na -> q_1\nf(q_1,q_1) -> q_1\na -> q_2\nf(q_2,q_2) -> q_2\n";
+
+/// Runs over the files `a` and `b`, of which the calls with the given numbers fail.
+fn answer_over(
+    alloc: Global,
+    words: &str,
+    a: &[u8],
+    b: &[u8],
+    reads: Vec<u64>,
+) -> Result<Ran, AllocError> {
+    let mut given = Vec::new(alloc);
+    for word in words.split_whitespace() {
+        given.push(String::from_str(alloc, word)?)?;
+    }
+    let mut files = MemFiles::new(alloc, 1_000, reads);
+    files.add("a", a)?;
+    files.add("b", b)?;
+    let mut out = MemSink::new(alloc, 1_000, 1_000, Vec::new(alloc))?;
+    let mut diag = MemSink::new(alloc, 1_000, 1_000, Vec::new(alloc))?;
+    let status = run(alloc, &given, &mut files, &mut out, &mut diag);
+    Ok(Ran { status, out, diag })
+}
+
+#[test]
+fn requests_are_answered(rt: HostRuntime) -> Result<(), AllocError> {
+    let alloc = rt.alloc();
+    for (words, a, b, read, status, out, diag) in [
+        (
+            "load -p a",
+            SIBLING,
+            ALL,
+            0,
+            0,
+            b"Ops a:0 f:2\nAutomaton t\nStates q r\nFinal States r\nTransitions\na -> q\nf(q,q) -> r\n".as_slice(),
+            b"".as_slice(),
+        ),
+        ("union a a", ALL, ALL, 0, 0, DOUBLE, b"".as_slice()),
+        ("union -p a b", ALL, ALL2, 0, 0, DOUBLE, b"".as_slice()),
+        (
+            "union a b",
+            ONLY,
+            b"Ops".as_slice(),
+            0,
+            4,
+            b"".as_slice(),
+            b"syntax: file 2 at 3\n".as_slice(),
+        ),
+        // The fifth call reads the second file.
+        (
+            "union a b",
+            ALL,
+            ALL2,
+            5,
+            6,
+            b"".as_slice(),
+            b"read fault: file 2\n".as_slice(),
+        ),
+        (
+            "union c b",
+            ALL,
+            ALL2,
+            0,
+            6,
+            b"".as_slice(),
+            b"read fault: file 1\n".as_slice(),
+        ),
+    ] {
+        let ran = answer_over(alloc, words, a, b, vec![in alloc; read]?)?;
+        assert_eq!(rt; ran.status.number(), status, "{words}");
+        assert_eq!(rt; ran.out.bytes(), out, "{words}");
+        assert_eq!(rt; ran.diag.bytes(), diag, "{words}");
+    }
+    Ok(())
+}
+
+const EVEN: &[u8] =
+    b"Ops a:0 g:1\nAutomaton even\nStates e o\nFinal States e\nTransitions\na -> e\ng(o) -> e\ng(e) -> o\n";
+
+const THREE: &[u8] =
+    b"Ops a:0 g:1\nAutomaton three\nStates t0 t1 t2\nFinal States t0\nTransitions\na -> t0\ng(t0) -> t1\ng(t1) -> t2\ng(t2) -> t0\n";
+
+/// The automaton of a file.
+fn listed_of(alloc: Global, file: &[u8]) -> Result<Listed, AllocError>
+    ensures { IfOk result IsSmall }
+{
+    let mut files = MemFiles::new(alloc, 1_000, Vec::new(alloc));
+    files.add("a", file)?;
+    match automaton_of(alloc, &mut files, "a") {
+        Ok(a) => Ok(a),
+        Err(_) => Err(AllocError),
+    }
+}
+
+/// The text of the product.
+fn product_of(alloc: Global, a: &Listed, b: &Listed) -> Result<Vec<u8>, AllocError>
+    requires left { IsSmall a.now }
+    requires right { IsSmall b.now }
+{
+    let Ok(pair) = ExplicitPair::from_listed(a, b) else {
+        return Err(AllocError);
+    };
+    match isect(alloc, &pair) {
+        Ok(product) => print(&product),
+        Err(_) => Err(AllocError),
+    }
+}
+
+#[test]
+fn the_product_of_two_files(rt: HostRuntime) -> Result<(), AllocError> {
+    let alloc = rt.alloc();
+    let even = listed_of(alloc, EVEN)?;
+    let three = listed_of(alloc, THREE)?;
+    let text = product_of(alloc, &even, &three)?;
+    assert_eq!(rt;
+        text.as_slice(),
+        b"Ops a:0 g:1\nAutomaton isect\nStates p0_0 p0_1 p0_2 p1_0 p1_1 p1_2\nFinal States p0_0\nTransitions\na -> p0_0\ng(p1_2) -> p0_0\ng(p1_0) -> p0_1\ng(p1_1) -> p0_2\ng(p0_2) -> p1_0\ng(p0_0) -> p1_1\ng(p0_1) -> p1_2\n".as_slice()
+    );
     Ok(())
 }

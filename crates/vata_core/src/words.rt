@@ -2,8 +2,8 @@
 
 ghost use Rattle.std.specs.Prelude.{◌≡◌, map, string_bytes, Some, None, IfOk, IfErr};
 ghost use Rattle.vata_core.specs.CheckRequest.{check_request_of, check_usage_line};
-ghost use Rattle.vata_core.specs.Request.{Load, request_of, usage_line};
-ghost use Rattle.vata_core.specs.Refusals.{untaken_line};
+ghost use Rattle.vata_core.specs.Request.{request_of, usage_line};
+ghost use Rattle.vata_core.specs.Refusals.{request_for, untaken_line};
 ghost use Rattle.vata_core.specs.Usage.{fault_line};
 
 use vata_words::{Encoding, Request, WordFault};
@@ -16,10 +16,24 @@ pub enum Untaken {
     Fault(WordFault),
 }
 
-/// The file that is to be loaded. Takes no memory.
+/// What a run has to do, with the names of its files.
+#[derive(Clone, Copy, Debug)]
+pub enum Task<'a> {
+    Load {
+        trim: bool,
+        file: &'a str,
+    },
+    Union {
+        trim: bool,
+        first: &'a str,
+        second: &'a str,
+    },
+}
+
+/// What the words ask for. Takes no memory.
 #[tactic(auto, unfolding(crate::specs::Request::request_of, crate::specs::Request::usage_line))]
-pub fn file_to_load(words: &[String]) -> Result<&str, Untaken>
-    ensures ok { IfOk result (λ name. request_of (map string_bytes words.now) ≡ Some (Load name.now)) }
+pub fn task_of(words: &[String]) -> Result<Task<'_>, Untaken>
+    ensures ok { IfOk result (λ task. request_of (map string_bytes words.now) ≡ Some (request_for task)) }
     ensures err { IfErr result (λ untaken. (request_of (map string_bytes words.now) ≡ None)
         × (usage_line (map string_bytes words.now) ≡ untaken_line untaken)) }
 {
@@ -27,10 +41,25 @@ pub fn file_to_load(words: &[String]) -> Result<&str, Untaken>
         Ok(
             Request::Load {
                 encoding: Encoding::Expl,
-                trim: false,
+                trim,
                 file,
             },
-        ) => Ok(words[file].as_str()),
+        ) => Ok(Task::Load {
+            trim,
+            file: words[file].as_str(),
+        }),
+        Ok(
+            Request::Union {
+                encoding: Encoding::Expl,
+                trim,
+                first,
+                second,
+            },
+        ) => Ok(Task::Union {
+            trim,
+            first: words[first].as_str(),
+            second: words[second].as_str(),
+        }),
         Ok(_) => Err(Untaken::NotBuilt),
         Err(fault) => Err(Untaken::Fault(fault)),
     }

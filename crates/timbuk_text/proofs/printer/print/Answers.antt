@@ -1,4 +1,4 @@
-use Rattle.std.proofs.Common.{Vec, Global, List, ℕ}
+use Rattle.std.proofs.Common.{Vec, Global, ℕ}
 use Rattle.tree_definitions.specs.Canonical.{canon}
 use Rattle.timbuk_text.proofs.Printed.{spells_as}
 use Rattle.timbuk_text.proofs.printer.print.Goals as goal

@@ -1,5 +1,4 @@
 use Rattle.std.proofs.Common.{List, ℕ, sym, subst}
-use Rattle.tree_definitions.specs.Automaton.{Automaton}
 use Rattle.timbuk_definitions.specs.Place.{IsBadPlace, PassesNoLimit}
 use Rattle.timbuk_definitions.specs.Reading.{Spells}
 use Rattle.timbuk_text.specs.declared.error.TextError.{TextError}

@@ -1,4 +1,4 @@
-use Rattle.std.proofs.Common.{◌≡◌, ◌≤◌, true, false, length, sym, ap, ◌∙◌, subst, arith}
+use Rattle.std.proofs.Common.{◌≡◌, true, false, length, sym, ◌∙◌, subst, arith}
 use Rattle.timbuk_definitions.specs.Machine.{IsEnd}
 use Rattle.timbuk_definitions.specs.Place.{IsBadPlace, PassesNoLimit}
 use Rattle.timbuk_text.specs.declared.error.TextError.{TextError}

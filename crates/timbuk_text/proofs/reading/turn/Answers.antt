@@ -1,8 +1,6 @@
-use Rattle.std.proofs.Common.{◌≡◌, ◌≤◌, ℕ, Some, None, Err, length, sym, ap, ◌∙◌, subst, arith}
-use Rattle.std.specs.Prelude.{Result, slice_range}
+use Rattle.std.proofs.Common.{◌≡◌, Err, sym, ap, ◌∙◌, subst, arith}
+use Rattle.std.specs.Prelude.{Result}
 use Rattle.timbuk_definitions.specs.Place.{IsBadPlace, PassesLimit, PassesNoLimit}
-use Rattle.timbuk_text.specs.declared.error.TextError.{TextError}
-use Rattle.timbuk_text.specs.declared.error.Counted.{Counted}
 use Rattle.timbuk_text.specs.declared.tables.Stop.{Stop}
 use Rattle.timbuk_text.specs.Store.{store_of}
 use Rattle.timbuk_text.specs.Taking.{limit_of}

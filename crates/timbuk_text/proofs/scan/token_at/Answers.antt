@@ -1,7 +1,5 @@
-use Rattle.std.proofs.Common.{rules, ◌≡◌, ◌<◌, true, false, sym, ap, ◌∙◌, drop, arith}
-use Rattle.timbuk_definitions.specs.Cursor.{BeginsWord}
+use Rattle.std.proofs.Common.{rules, ◌≡◌, true, false, sym, ap, ◌∙◌, arith}
 use Rattle.timbuk_definitions.specs.Token.{Arrow}
-use Rattle.timbuk_text.specs.Scan.{BeginsArrow}
 use Rattle.timbuk_text.specs.Table.{sight_of}
 use Rattle.timbuk_text.proofs.Found.{word_found, arrow_within, arrow_found, byte_found}
 use Rattle.timbuk_text.proofs.scan.token_at.Goals as goal

@@ -1,86 +1,100 @@
 use Rattle.std.proofs.Common.{◌≡◌, ◌⊎◌, ◌∙◌, List, ℕ, [], ◌∷◌, Some, IfSome, inl, inr, sym, ap, subst}
 use Rattle.std.specs.Prelude.{unwrap_or}
 use Rattle.std.specs.declared.option.Option.{Option}
-use Rattle.vata_outside.specs.Outside.{File}
-use Rattle.vata_core.specs.Request.{Request, Load, files_of}
-use Rattle.vata_core.specs.Files.{AreSpelled, IsBadAt, IsRefused, IsSpelled}
-use Rattle.vata_core.specs.Lines.{Tells}
-use Rattle.vata_core.specs.Outcome.{Answers, AnswersInPart, IsLimited}
-use Rattle.vata_core.specs.Refusals.{IsHalted, refusal_line, refusal_status}
+use Rattle.std.specs.Io.KnownBytes.{Appends}
+use Rattle.vata_outside.specs.Outside.{AppendsPrefix, File}
+use Rattle.vata_core.specs.Request.{Request, files_of}
+use Rattle.vata_core.specs.Answer.{answer_text}
+use Rattle.vata_core.specs.Files.{AreSpelled, IsBadAt, IsRefused}
+use Rattle.vata_core.specs.Lines.{Tells, memory_line, read_line, syntax_line}
+use Rattle.vata_core.specs.Outcome.{Answers, AnswersInPart, AreWithin, FailsToRead, IsLimited}
+use Rattle.vata_core.specs.Refusals.{HasText, IsHalted, halt_line, halt_status, request_for}
 use Rattle.vata_core.specs.declared.status.Status.TheVariants as status
-use Rattle.vata_core.proofs.Answered.{load_answers, load_answers_in_part}
-use Rattle.vata_core.proofs.Halts.{bad_or_spelled, limit_due, limited, limited_or_spelled, nothing_wrong, syntax_due}
+use Rattle.vata_core.proofs.Answered.{answers, answers_in_part}
+use Rattle.vata_core.proofs.Halts.{bad_file, bad_or_spelled, limit_due, limited, limited_or_spelled, memory_told, nothing_wrong, syntax_due, unread_file}
 use Rattle.vata_core.proofs.running.run.Goals as goal
 
-one_load : (asked : Option Request) (name : List ℕ) (request : Request) → asked ≡ Some (Load name) → asked ≡ Some request → name ∷ [] ≡ files_of request
-one_load asked name request a b = ap (λ o. files_of (unwrap_or o (Load name))) (sym a ∙ b)
+-- what was asked for is one request
+one_request : (asked : Option Request) (r s : Request) → asked ≡ Some r → asked ≡ Some s → r ≡ s
+one_request asked r s a b = ap (λ o. unwrap_or o r) (sym a ∙ b)
 
-pub returns-in-Err-text_to_load-clause-limit : goal.returns-in-Err-text_to_load-clause-limit
-returns-in-Err-text_to_load-clause-limit g c = λ e.
-    subst (λ asked. IfSome asked (λ request. (line : List ℕ) × IsLimited (g.F.Files.files c.args.files.now) (files_of request) line
-    × Tells (g.E.Sink.written c.args.diag.now) (g.E.Sink.written c.tell_refusal.new.diag) (g.E.Sink.faults c.args.diag.now) (g.E.Sink.faults c.tell_refusal.new.diag) line))
-    (sym c.in-Ok.ensures.ok)
-    (refusal_line c.in-Err-text_to_load.refusal 0, limited _ _ _ _ 0 c.in-Err-text_to_load.refusal (sym c.status_of.ensures ∙ e) c.in-Err-text_to_load.ensures.err, c.tell_refusal.ensures)
+pub returns-in-Err-answer_to-clause-syntax : goal.returns-in-Err-answer_to-clause-syntax
+returns-in-Err-answer_to-clause-syntax g c = λ e.
+    let bad = bad_file _ _ _ _ c.in-Err-answer_to.halt (sym c.halted.ensures ∙ e) c.in-Err-answer_to.ensures.err in
+    subst (λ asked. IfSome asked (λ request. (place : ℕ) × (at : ℕ) × IsRefused (g.F.Files.files c.args.files.now) (files_of request) (IsBadAt at) place
+    × Tells (g.E.Sink.written c.args.diag.now) (g.E.Sink.written c.tell_halt.new.diag) (g.E.Sink.faults c.args.diag.now) (g.E.Sink.faults c.tell_halt.new.diag) (syntax_line place at)))
+    (sym c.in-Ok.ensures.ok) (bad.0, bad.1, bad.2, subst (Tells (g.E.Sink.written c.args.diag.now) (g.E.Sink.written c.tell_halt.new.diag) (g.E.Sink.faults c.args.diag.now) (g.E.Sink.faults c.tell_halt.new.diag)) bad.3 c.tell_halt.ensures)
 
-pub returns-in-Err-text_to_load-clause-syntax_due : goal.returns-in-Err-text_to_load-clause-syntax_due
-returns-in-Err-text_to_load-clause-syntax_due g c = λ request fs place at asked told bad calm.
-    subst (λ s. (s ≡ status.Syntax) ⊎ (s ≡ status.Memory)) (sym c.status_of.ensures)
-    (syntax_due fs (files_of request) place at _ _ 0 c.in-Err-text_to_load.refusal bad calm
-    (subst (λ files. IsHalted files (files_of request) (g.F.Files.faults c.args.files.now) (g.F.Files.faults c.text_to_load.new.files) 0 c.in-Err-text_to_load.refusal) told
-    (subst (λ names. IsHalted (g.F.Files.files c.args.files.now) names (g.F.Files.faults c.args.files.now) (g.F.Files.faults c.text_to_load.new.files) 0 c.in-Err-text_to_load.refusal)
-    (one_load _ _ request c.in-Ok.ensures.ok asked) c.in-Err-text_to_load.ensures.err)))
+pub returns-in-Err-answer_to-clause-limit : goal.returns-in-Err-answer_to-clause-limit
+returns-in-Err-answer_to-clause-limit g c = λ e.
+    subst (λ asked. IfSome asked (λ request. (line : List ℕ) × IsLimited (g.F.Files.files c.args.files.now) (files_of request) line × Tells (g.E.Sink.written c.args.diag.now) (g.E.Sink.written c.tell_halt.new.diag) (g.E.Sink.faults c.args.diag.now) (g.E.Sink.faults c.tell_halt.new.diag) line))
+    (sym c.in-Ok.ensures.ok) (halt_line c.in-Err-answer_to.halt, limited _ _ _ _ c.in-Err-answer_to.halt (sym c.halted.ensures ∙ e) c.in-Err-answer_to.ensures.err, c.tell_halt.ensures)
 
-pub returns-in-Err-text_to_load-clause-limit_due : goal.returns-in-Err-text_to_load-clause-limit_due
-returns-in-Err-text_to_load-clause-limit_due g c = λ request fs line asked told beyond calm.
-    subst (λ s. (s ≡ status.Limit) ⊎ (s ≡ status.Memory)) (sym c.status_of.ensures)
-    (limit_due fs (files_of request) line _ _ 0 c.in-Err-text_to_load.refusal beyond calm
-    (subst (λ files. IsHalted files (files_of request) (g.F.Files.faults c.args.files.now) (g.F.Files.faults c.text_to_load.new.files) 0 c.in-Err-text_to_load.refusal) told
-    (subst (λ names. IsHalted (g.F.Files.files c.args.files.now) names (g.F.Files.faults c.args.files.now) (g.F.Files.faults c.text_to_load.new.files) 0 c.in-Err-text_to_load.refusal)
-    (one_load _ _ request c.in-Ok.ensures.ok asked) c.in-Err-text_to_load.ensures.err)))
+pub returns-in-Err-answer_to-clause-read : goal.returns-in-Err-answer_to-clause-read
+returns-in-Err-answer_to-clause-read g c = λ e.
+    let lost = unread_file _ _ _ _ c.in-Err-answer_to.halt (sym c.halted.ensures ∙ e) c.in-Err-answer_to.ensures.err in
+    subst (λ asked. IfSome asked (λ request. (place : ℕ) × FailsToRead (g.F.Files.files c.args.files.now) (files_of request) (g.F.Files.faults c.args.files.now) (g.F.Files.faults c.answer_to.new.files) place × Tells (g.E.Sink.written c.args.diag.now) (g.E.Sink.written c.tell_halt.new.diag) (g.E.Sink.faults c.args.diag.now) (g.E.Sink.faults c.tell_halt.new.diag) (read_line place)))
+    (sym c.in-Ok.ensures.ok) (lost.0, lost.1, subst (Tells (g.E.Sink.written c.args.diag.now) (g.E.Sink.written c.tell_halt.new.diag) (g.E.Sink.faults c.args.diag.now) (g.E.Sink.faults c.tell_halt.new.diag)) lost.2 c.tell_halt.ensures)
 
-pub returns-in-Err-text_to_load-clause-complete : goal.returns-in-Err-text_to_load-clause-complete
-returns-in-Err-text_to_load-clause-complete g c = λ request fs As asked told spelled calm _.
-    inr (c.status_of.ensures ∙ nothing_wrong fs (files_of request) _ _ 0 c.in-Err-text_to_load.refusal As spelled calm
-    (subst (λ files. IsHalted files (files_of request) (g.F.Files.faults c.args.files.now) (g.F.Files.faults c.text_to_load.new.files) 0 c.in-Err-text_to_load.refusal) told
-    (subst (λ names. IsHalted (g.F.Files.files c.args.files.now) names (g.F.Files.faults c.args.files.now) (g.F.Files.faults c.text_to_load.new.files) 0 c.in-Err-text_to_load.refusal)
-    (one_load _ _ request c.in-Ok.ensures.ok asked) c.in-Err-text_to_load.ensures.err)))
+pub returns-in-Err-answer_to-clause-memory_told : goal.returns-in-Err-answer_to-clause-memory_told
+returns-in-Err-answer_to-clause-memory_told g c = λ e. subst (Tells (g.E.Sink.written c.args.diag.now) (g.E.Sink.written c.tell_halt.new.diag) (g.E.Sink.faults c.args.diag.now) (g.E.Sink.faults c.tell_halt.new.diag)) (memory_told c.in-Err-answer_to.halt (sym c.halted.ensures ∙ e)) c.tell_halt.ensures
+
+pub returns-in-Err-answer_to-clause-syntax_due : goal.returns-in-Err-answer_to-clause-syntax_due
+returns-in-Err-answer_to-clause-syntax_due g c = λ request fs place at asked told bad calm.
+    subst (λ s. (s ≡ status.Syntax) ⊎ (s ≡ status.Memory)) (sym c.halted.ensures)
+    (syntax_due fs (files_of request) place at _ _ c.in-Err-answer_to.halt bad calm
+    (subst (λ files. IsHalted files (files_of request) (g.F.Files.faults c.args.files.now) (g.F.Files.faults c.answer_to.new.files) c.in-Err-answer_to.halt) told
+    (subst (λ r. IsHalted (g.F.Files.files c.args.files.now) (files_of r) (g.F.Files.faults c.args.files.now) (g.F.Files.faults c.answer_to.new.files) c.in-Err-answer_to.halt) (one_request _ _ request c.in-Ok.ensures.ok asked) c.in-Err-answer_to.ensures.err)))
+
+pub returns-in-Err-answer_to-clause-limit_due : goal.returns-in-Err-answer_to-clause-limit_due
+returns-in-Err-answer_to-clause-limit_due g c = λ request fs line asked told beyond calm.
+    subst (λ s. (s ≡ status.Limit) ⊎ (s ≡ status.Memory)) (sym c.halted.ensures)
+    (limit_due fs (files_of request) line _ _ c.in-Err-answer_to.halt beyond calm
+    (subst (λ files. IsHalted files (files_of request) (g.F.Files.faults c.args.files.now) (g.F.Files.faults c.answer_to.new.files) c.in-Err-answer_to.halt) told
+    (subst (λ r. IsHalted (g.F.Files.files c.args.files.now) (files_of r) (g.F.Files.faults c.args.files.now) (g.F.Files.faults c.answer_to.new.files) c.in-Err-answer_to.halt) (one_request _ _ request c.in-Ok.ensures.ok asked) c.in-Err-answer_to.ensures.err)))
+
+pub returns-in-Err-answer_to-clause-complete : goal.returns-in-Err-answer_to-clause-complete
+returns-in-Err-answer_to-clause-complete g c = λ request fs As asked told spelled within calm _.
+    inr (c.halted.ensures ∙ nothing_wrong fs (files_of request) _ _ c.in-Err-answer_to.halt As spelled within calm
+    (subst (λ files. IsHalted files (files_of request) (g.F.Files.faults c.args.files.now) (g.F.Files.faults c.answer_to.new.files) c.in-Err-answer_to.halt) told
+    (subst (λ r. IsHalted (g.F.Files.files c.args.files.now) (files_of r) (g.F.Files.faults c.args.files.now) (g.F.Files.faults c.answer_to.new.files) c.in-Err-answer_to.halt) (one_request _ _ request c.in-Ok.ensures.ok asked) c.in-Err-answer_to.ensures.err)))
 
 pub returns-in-Ok-write_all_of-clause-answered : goal.returns-in-Ok-write_all_of-clause-answered
 returns-in-Ok-write_all_of-clause-answered g c = λ _.
-    let found = c.in-Ok-text_to_load.ensures.ok in
+    let found = c.in-Ok-answer_to.ensures.ok in
     subst (λ asked. IfSome asked (Answers (g.F.Files.files c.args.files.now) (g.K.Sink.written c.args.out.now) (g.K.Sink.written c.write_all_of.new.sink) status.Done)) (sym c.in-Ok.ensures.ok)
-    (load_answers _ c.in-Ok.name.now found.0 found.1 _ _ _ (c.deref.ensures.value ∙ found.2) c.in-Ok-write_all_of.ensures.ok)
+    (answers found (subst (Appends (g.K.Sink.written c.args.out.now) (g.K.Sink.written c.write_all_of.new.sink)) c.deref.ensures.value c.in-Ok-write_all_of.ensures.ok))
 
 pub returns-clause-cut : goal.returns-clause-cut
 returns-clause-cut g c = λ _.
-    let found = c.in-Ok-text_to_load.ensures.ok in
+    let found = c.in-Ok-answer_to.ensures.ok in
     subst (λ asked. IfSome asked (AnswersInPart (g.F.Files.files c.args.files.now) (g.K.Sink.written c.args.out.now) (g.K.Sink.written c.write_all_of.new.sink))) (sym c.in-Ok.ensures.ok)
-    (load_answers_in_part _ c.in-Ok.name.now found.0 found.1 _ _ _ (c.deref.ensures.value ∙ found.2) c.in-Err-write_all_of.ensures.err)
+    (answers_in_part found (subst (AppendsPrefix (g.K.Sink.written c.args.out.now) (g.K.Sink.written c.write_all_of.new.sink)) c.deref.ensures.value c.in-Err-write_all_of.ensures.err))
 
 pub returns-in-Ok-write_all_of-clause-syntax_due : goal.returns-in-Ok-write_all_of-clause-syntax_due
 returns-in-Ok-write_all_of-clause-syntax_due g c = λ request fs place at asked told bad calm.
-    let spelled : AreSpelled (Some fs) (files_of request) (c.in-Ok-text_to_load.ensures.ok.0 ∷ []) =
-    subst (λ names. AreSpelled (Some fs) names (c.in-Ok-text_to_load.ensures.ok.0 ∷ [])) (one_load _ _ request c.in-Ok.ensures.ok asked)
-    (subst (λ files. IsSpelled files c.in-Ok.name.now c.in-Ok-text_to_load.ensures.ok.0) told c.in-Ok-text_to_load.ensures.ok.1, tt) in
-    absurd (bad_or_spelled fs (files_of request) (c.in-Ok-text_to_load.ensures.ok.0 ∷ []) place at spelled bad)
+    let right : HasText (Some fs) request c.in-Ok-answer_to.text.items =
+    subst (λ files. HasText files request c.in-Ok-answer_to.text.items) told
+    (subst (λ r. HasText (g.F.Files.files c.args.files.now) r c.in-Ok-answer_to.text.items) (one_request _ _ request c.in-Ok.ensures.ok asked) c.in-Ok-answer_to.ensures.ok) in
+    absurd (bad_or_spelled fs (files_of request) right.right.automata place at right.right.spelled bad)
 
 pub returns-clause-syntax_due : goal.returns-clause-syntax_due
 returns-clause-syntax_due g c = λ request fs place at asked told bad calm.
-    let spelled : AreSpelled (Some fs) (files_of request) (c.in-Ok-text_to_load.ensures.ok.0 ∷ []) =
-    subst (λ names. AreSpelled (Some fs) names (c.in-Ok-text_to_load.ensures.ok.0 ∷ [])) (one_load _ _ request c.in-Ok.ensures.ok asked)
-    (subst (λ files. IsSpelled files c.in-Ok.name.now c.in-Ok-text_to_load.ensures.ok.0) told c.in-Ok-text_to_load.ensures.ok.1, tt) in
-    absurd (bad_or_spelled fs (files_of request) (c.in-Ok-text_to_load.ensures.ok.0 ∷ []) place at spelled bad)
+    let right : HasText (Some fs) request c.in-Ok-answer_to.text.items =
+    subst (λ files. HasText files request c.in-Ok-answer_to.text.items) told
+    (subst (λ r. HasText (g.F.Files.files c.args.files.now) r c.in-Ok-answer_to.text.items) (one_request _ _ request c.in-Ok.ensures.ok asked) c.in-Ok-answer_to.ensures.ok) in
+    absurd (bad_or_spelled fs (files_of request) right.right.automata place at right.right.spelled bad)
 
 pub returns-in-Ok-write_all_of-clause-limit_due : goal.returns-in-Ok-write_all_of-clause-limit_due
 returns-in-Ok-write_all_of-clause-limit_due g c = λ request fs line asked told beyond calm.
-    let spelled : AreSpelled (Some fs) (files_of request) (c.in-Ok-text_to_load.ensures.ok.0 ∷ []) =
-    subst (λ names. AreSpelled (Some fs) names (c.in-Ok-text_to_load.ensures.ok.0 ∷ [])) (one_load _ _ request c.in-Ok.ensures.ok asked)
-    (subst (λ files. IsSpelled files c.in-Ok.name.now c.in-Ok-text_to_load.ensures.ok.0) told c.in-Ok-text_to_load.ensures.ok.1, tt) in
-    absurd (limited_or_spelled fs (files_of request) (c.in-Ok-text_to_load.ensures.ok.0 ∷ []) line spelled beyond)
+    let right : HasText (Some fs) request c.in-Ok-answer_to.text.items =
+    subst (λ files. HasText files request c.in-Ok-answer_to.text.items) told
+    (subst (λ r. HasText (g.F.Files.files c.args.files.now) r c.in-Ok-answer_to.text.items) (one_request _ _ request c.in-Ok.ensures.ok asked) c.in-Ok-answer_to.ensures.ok) in
+    absurd (limited_or_spelled fs (files_of request) right.right.automata line right.right.spelled right.within beyond)
 
 pub returns-clause-limit_due : goal.returns-clause-limit_due
 returns-clause-limit_due g c = λ request fs line asked told beyond calm.
-    let spelled : AreSpelled (Some fs) (files_of request) (c.in-Ok-text_to_load.ensures.ok.0 ∷ []) =
-    subst (λ names. AreSpelled (Some fs) names (c.in-Ok-text_to_load.ensures.ok.0 ∷ [])) (one_load _ _ request c.in-Ok.ensures.ok asked)
-    (subst (λ files. IsSpelled files c.in-Ok.name.now c.in-Ok-text_to_load.ensures.ok.0) told c.in-Ok-text_to_load.ensures.ok.1, tt) in
-    absurd (limited_or_spelled fs (files_of request) (c.in-Ok-text_to_load.ensures.ok.0 ∷ []) line spelled beyond)
+    let right : HasText (Some fs) request c.in-Ok-answer_to.text.items =
+    subst (λ files. HasText files request c.in-Ok-answer_to.text.items) told
+    (subst (λ r. HasText (g.F.Files.files c.args.files.now) r c.in-Ok-answer_to.text.items) (one_request _ _ request c.in-Ok.ensures.ok asked) c.in-Ok-answer_to.ensures.ok) in
+    absurd (limited_or_spelled fs (files_of request) right.right.automata line right.right.spelled right.within beyond)

@@ -1,6 +1,6 @@
 use Rattle.std.proofs.Common.{ap}
 use Rattle.timbuk_text.specs.Fed.{Fed}
-use Rattle.timbuk_text.proofs.Judged.{Judges, judges_as, spelled, bad, over}
+use Rattle.timbuk_text.proofs.Judged.{judges_as, spelled, bad, over}
 use Rattle.timbuk_text.proofs.reader.Reader.finish.Goals as goal
 
 pub returns-clause-ok : goal.returns-clause-ok

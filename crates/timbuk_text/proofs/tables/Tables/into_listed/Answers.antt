@@ -1,8 +1,5 @@
-use Rattle.std.proofs.Common.{◌≡◌, ℕ, List, Some, sym, subst, ◌∙◌, ap}
+use Rattle.std.proofs.Common.{sym, subst, ◌∙◌}
 use Rattle.ta_model.specs.Listing.{IsListed}
-use Rattle.tree_definitions.specs.Automaton.{Automaton}
-use Rattle.timbuk_text.specs.Store.{store_of}
-use Rattle.timbuk_text.specs.Reading.{automaton_of}
 use Rattle.timbuk_text.proofs.tables.Tables.into_listed.Goals as goal
 
 pub new-requires : goal.new-requires

@@ -1,4 +1,4 @@
-use Rattle.std.proofs.Common.{◌≡◌, ◌∙◌, ap, List, ℕ}
+use Rattle.std.proofs.Common.{◌∙◌, ap, List, ℕ}
 use Rattle.std.specs.Ordering.{eq_by_cmp}
 use Rattle.tree_definitions.specs.Automaton.{Rule}
 use Rattle.tree_definitions.specs.Canonical.{rule_cmp}

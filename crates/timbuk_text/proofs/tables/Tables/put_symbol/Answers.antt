@@ -1,4 +1,4 @@
-use Rattle.std.proofs.Common.{◌≡◌, ◌∙◌, ap, List, ℕ}
+use Rattle.std.proofs.Common.{◌∙◌, ap, List, ℕ}
 use Rattle.tree_definitions.specs.Tree.{Symbol}
 use Rattle.tree_definitions.specs.Joint.{same_symbol}
 use Rattle.timbuk_definitions.proofs.Spelled.{symbol_decides}

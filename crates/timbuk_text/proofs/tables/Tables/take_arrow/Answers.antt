@@ -1,26 +1,18 @@
-use Rattle.std.proofs.Common.{◌≡◌, ◌≤◌, ◌<◌, ◌+◌, ◌++◌, ◌∷◌, [], List, ℕ, Some, length, min, sym, ap, ◌∙◌, subst, arith}
-use Rattle.std.specs.Str.Parse.{digits_value}
-use Rattle.std.proofs.lemmas.Result.{on_ok_weaker}
-use Rattle.std.specs.Ordering.{eq_by_cmp}
-use Rattle.std.specs.Prelude.{nat_eq}
-use Rattle.tree_definitions.specs.Tree.{Symbol}
-use Rattle.tree_definitions.specs.Canonical.{rule_cmp}
+use Rattle.std.proofs.Common.{◌≡◌, ℕ, length, sym, ap, subst}
 use Rattle.tree_definitions.specs.Joint.{same_symbol}
 use Rattle.timbuk_definitions.specs.Place.{IsFull}
-use Rattle.timbuk_definitions.specs.Reading.{with_new}
-use Rattle.timbuk_text.specs.Taking.{Takes, Passes, Interns, line_read, limit_of}
+use Rattle.timbuk_text.specs.Taking.{Takes, Interns}
 use Rattle.timbuk_text.specs.Store.{Store, store_of}
-use Rattle.timbuk_text.specs.declared.table.Deed.{Deed}
-use Rattle.timbuk_text.proofs.Stopped.{passed_on, states_stop, symbols_stop, rules_stop}
-use Rattle.timbuk_text.proofs.Taken.{plain_taken, title_taken, op_name_taken, op_rank_taken, op_rank_full, arrow_taken, arrow_full, head_taken}
-use Rattle.timbuk_text.proofs.TakenStates.{final_taken, final_full, kid_taken, kid_full, parent_taken, parent_full, rule_full}
+use Rattle.timbuk_text.specs.declared.table.Action.{Action}
+use Rattle.timbuk_text.proofs.Stopped.{passed_on, symbols_stop}
+use Rattle.timbuk_text.proofs.Taken.{arrow_taken, arrow_full}
 use Rattle.timbuk_text.proofs.tables.Tables.take_arrow.Goals as goal
 
 pub returns-in_err-self-clause-stop : goal.returns-in_err-self-clause-stop
 returns-in_err-self-clause-stop c which e =
     let old : Store = store_of c.args.self.now in
     let same : c.len-rank.result ≡ length c.args.self.now.kids.items = c.len-rank.ensures.value in
-    symbols_stop Deed.Arrow c.args.word.now old (record { name = c.args.self.now.head.items; rank = c.len-rank.result })
+    symbols_stop Action.Arrow c.args.word.now old (record { name = c.args.self.now.head.items; rank = c.len-rank.result })
     (λ full. arrow_full old c.args.word.now (subst (λ (r : ℕ). IsFull 65535 c.args.self.now.symbols.keys (record { name = c.args.self.now.head.items; rank = r })) same full)) which
     (c.in_err-self.ensures.stop which (passed_on c.from_residual.result c.in_err-self.field-0.0 which c.from_residual.ensures e))
 
@@ -28,7 +20,7 @@ pub returns-clause-ok : goal.returns-clause-ok
 returns-clause-ok c =
     let old : Store = store_of c.args.self.now in
     let same : c.len-rank.result ≡ length c.args.self.now.kids.items = c.len-rank.ensures.value in
-    subst (Takes Deed.Arrow c.args.word.now old) (sym (ap (λ (s : Store). record s { symbol = c.in_ok-self.field-0 }) c.in_ok-self.ensures.rest))
+    subst (Takes Action.Arrow c.args.word.now old) (sym (ap (λ (s : Store). record s { symbol = c.in_ok-self.field-0 }) c.in_ok-self.ensures.rest))
     (arrow_taken old c.args.word.now c.put_symbol.new.self.symbols.keys c.in_ok-self.field-0
     (subst (λ (r : ℕ). Interns same_symbol 65535 c.args.self.now.symbols.keys c.put_symbol.new.self.symbols.keys (record { name = c.args.self.now.head.items; rank = r }) c.in_ok-self.field-0) same c.in_ok-self.ensures.ok)
     c.requires.few)

@@ -1,0 +1,62 @@
+-- The product of two canonical forms is the product of the automata.
+use Rattle.std.proofs.Common.{◌≡◌, ◌↔◌, ℕ, List, map, subst, sym}
+use Rattle.std.specs.Prelude.{Contains}
+use Rattle.tree_definitions.specs.Tree.{Symbol, Tree}
+use Rattle.tree_definitions.specs.Automaton.{Automaton, HasRule}
+use Rattle.tree_definitions.specs.Canonical.{canon}
+use Rattle.tree_definitions.specs.Language.{Reaches, Accepts}
+use Rattle.tree_definitions.specs.Product.{Both, IsProduct, AreReachedTogether}
+use Rattle.tree_definitions.proofs.InOrder.{canon_finals, canon_language}
+use Rattle.tree_definitions.proofs.Joins.{reaches_more}
+use Rattle.tree_definitions.proofs.Multiplied.{product_accepts}
+use Rattle.trim_ops.proofs.SameRules.{rule_in, rule_out}
+use Rattle.bool_ops.specs.Results.{IsCanonicalProduct, HasMoreStates}
+
+reach_out : (A : Automaton) (t : Tree) (q : ℕ) → Reaches (canon A) t q → Reaches A t q
+reach_out A t q h = reaches_more (HasRule (canon A)) (HasRule A) (rule_out A) t q h
+
+reach_in : (A : Automaton) (t : Tree) (q : ℕ) → Reaches A t q → Reaches (canon A) t q
+reach_in A t q h = reaches_more (HasRule A) (HasRule (canon A)) (rule_in A) t q h
+
+pub together_out : (A B : Automaton) (x : Both) → AreReachedTogether (canon A) (canon B) x → AreReachedTogether A B x
+together_out A B x h = (h.0, reach_out A h.0 x.left h.1, reach_out B h.0 x.right h.2)
+
+pub more_states_out : (A B : Automaton) (n : ℕ) → HasMoreStates (canon A) (canon B) n → HasMoreStates A B n
+more_states_out A B n h = (h.0, h.1, λ x k. together_out A B x (h.2 x k), h.3)
+
+pub product_out : (A B P : Automaton) → IsProduct (canon A) (canon B) P → IsProduct A B P
+product_out A B P (pairs, m) = (
+  pairs,
+  record {
+    name = m.name;
+    symbols = m.symbols;
+    rising = m.rising;
+    reached = λ x. (
+      λ h. together_out A B x ((m.reached x).0 h),
+      λ h. (m.reached x).1 (h.0, reach_in A h.0 x.left h.1, reach_in B h.0 x.right h.2),
+    );
+    states = m.states;
+    finals = λ k. (
+      λ h. let g = (m.finals k).0 h in (g.0, g.1, (canon_finals A g.0.left).0 g.2, (canon_finals B g.0.right).0 g.3),
+      λ h. (m.finals k).1 (h.0, h.1, (canon_finals A h.0.left).1 h.2, (canon_finals B h.0.right).1 h.3),
+    );
+    rules = λ a kids k. (
+      λ h.
+          let g = (m.rules a kids k).0 h in
+          (g.0, g.1, g.2, g.3, rule_out A a (map (λ x. x.left) g.0) g.1.left g.4, rule_out B a (map (λ x. x.right) g.0) g.1.right g.5),
+      λ h. (m.rules a kids k).1 (h.0, h.1, h.2, h.3, rule_in A a (map (λ x. x.left) h.0) h.1.left h.4, rule_in B a (map (λ x. x.right) h.0) h.1.right h.5),
+    );
+  },
+)
+
+pub canonical_out : (A B C : Automaton) → IsCanonicalProduct (canon A) (canon B) C → IsCanonicalProduct A B C
+canonical_out A B C (P, h, e) = (P, product_out A B P h, e)
+
+pub accepts_both : (A B C : Automaton) → IsCanonicalProduct A B C → (t : Tree) → Accepts C t ↔ (Accepts A t × Accepts B t)
+accepts_both A B C (P, h, e) t = subst (λ (c : Automaton). Accepts c t ↔ (Accepts A t × Accepts B t)) (sym e) through
+  where
+    through : Accepts (canon P) t ↔ (Accepts A t × Accepts B t)
+    through =
+        let a = product_accepts A B P h.0 h.1 t in
+        let b = canon_language P t in
+        (λ x. a.0 (b.1 x), λ x. b.0 (a.1 x))

@@ -1,0 +1,14 @@
+pub mod Numbers
+pub mod Filed
+pub mod Closed
+pub mod Explored
+pub mod Ended
+pub mod Bridge
+pub mod Stands
+pub mod Ordered
+pub mod Parts
+pub mod Assembled
+pub mod WellFormed
+pub mod Finished
+pub mod Limits
+pub mod CanonicalProduct

@@ -1,0 +1,68 @@
+use Rattle.std.proofs.Common.{◌≡◌, ◌≢◌, ◌<◌, ◌∙◌, ℕ, List, length, map, sym, ap, subst, arith, Err}
+use Rattle.std.specs.Prelude.{All, AllPairs}
+use Rattle.std.specs.List.{AllZip}
+use Rattle.std.proofs.lemmas.List.Elements.{All-weaker}
+use Rattle.std.proofs.lemmas.Option.{slice_get_within}
+use Rattle.tree_definitions.specs.Automaton.{Rule, FitsRule, HasRule}
+use Rattle.tree_definitions.specs.Product.{Both}
+use Rattle.tree_definitions.specs.Relation.{IsAt}
+use Rattle.bool_ops.specs.Closing.{IsClosed, HasTooMany}
+use Rattle.bool_ops.specs.Joined.{StandFor, renumbered}
+use Rattle.bool_ops.specs.declared.error.OpError.TheVariants.{TooManyStates}
+use Rattle.bool_ops.proofs.Limits.{more_states, more_rules}
+use Rattle.bool_ops.proofs.Stands.{stand_for, zip_at}
+use Rattle.bool_ops.proofs.WellFormed.{renumbered_apart, zip_length}
+use Rattle.bool_ops.proofs.intersect.product_of.Goals as goal
+
+pub renumber-requires : goal.renumber-requires
+renumber-requires c =
+    let B = c.args.right.now in
+    let size : length c.in-Ok.numbers.items ≡ length B.symbols = zip_length (IsAt c.in-Ok.alphabet) c.in-Ok.numbers.items B.symbols c.in-Ok.ensures.numbers in
+    let whole : length c.deref.result.now ≡ length B.symbols = ap length c.deref.ensures.value ∙ size in
+    let all : All (λ rule. rule.symbol < length B.symbols) B.rules =
+    All-weaker (FitsRule B) (λ rule. rule.symbol < length B.symbols) (λ rule f. slice_get_within B.symbols rule.symbol f.symbol.0 f.symbol.1) B.rules c.requires.right.automaton.fitting in
+    subst (λ n. All (λ rule. rule.symbol < n) c.rules.result.now) (sym whole) (subst (All (λ rule. rule.symbol < length B.symbols)) (sym c.rules.ensures.value) all)
+
+pub returns-in-Err-clause-states : goal.returns-in-Err-clause-states
+returns-in-Err-clause-states c e =
+    let A = c.args.left.now in
+    let B = c.args.right.now in
+    let numbers = c.in-Ok.numbers.items in
+    let theirs : c.deref-3.result.now ≡ map (renumbered numbers) B.rules =
+    c.deref-3.ensures.value ∙ c.in_ok-theirs.ensures ∙ ap (λ n. map (renumbered n) c.rules.result.now) c.deref.ensures.value ∙ ap (map (renumbered numbers)) c.rules.ensures.value in
+    let same : c.in-Err.error ≡ TooManyStates = cc in
+    let many : HasTooMany c.rules-3.result.now c.deref-3.result.now c.close.new.pairs = c.in-Err.ensures.states (ap Err same) in
+    more_states A B c.in-Ok.alphabet numbers c.requires.left.automaton c.requires.right.automaton c.in-Ok.ensures.symbols c.in-Ok.ensures.alphabet.distinct c.in-Ok.ensures.numbers c.close.new.pairs
+    (subst (λ t. HasTooMany A.rules t c.close.new.pairs) theirs (subst (λ o. HasTooMany o c.deref-3.result.now c.close.new.pairs) c.rules-3.ensures.value many))
+
+pub returns-then-len-gt-MOST_RULES-clause-rules : goal.returns-then-len-gt-MOST_RULES-clause-rules
+returns-then-len-gt-MOST_RULES-clause-rules c e =
+    let A = c.args.left.now in
+    let B = c.args.right.now in
+    let numbers = c.in-Ok.numbers.items in
+    let p = c.close.new.pairs in
+    let f = c.close.new.found in
+    let theirs : c.deref-3.result.now ≡ map (renumbered numbers) B.rules =
+    c.deref-3.ensures.value ∙ c.in_ok-theirs.ensures ∙ ap (λ n. map (renumbered n) c.rules.result.now) c.deref.ensures.value ∙ ap (map (renumbered numbers)) c.rules.ensures.value in
+    let closed : IsClosed A.rules (map (renumbered numbers) B.rules) p f =
+    subst (λ t. IsClosed A.rules t p f) theirs (subst (λ o. IsClosed o c.deref-3.result.now p f) c.rules-3.ensures.value c.in_default-close.ensures.closed) in
+    more_rules A B c.in-Ok.alphabet numbers c.requires.left.automaton c.requires.right.automaton c.in-Ok.ensures.symbols c.in-Ok.ensures.alphabet.distinct c.in-Ok.ensures.numbers p f closed
+    c.len.ensures.distinct (omega (arith, c.len.ensures.value, c.if-len-gt-MOST_RULES.true))
+
+pub assemble-requires-clause-stand : goal.assemble-requires-clause-stand
+assemble-requires-clause-stand c =
+    let A = c.args.left.now in
+    let B = c.args.right.now in
+    let numbers = c.in-Ok.numbers.items in
+    let theirs : c.deref-4.result.now ≡ map (renumbered numbers) B.rules =
+    c.deref-4.ensures.value ∙ c.in_ok-theirs.ensures ∙ ap (λ n. map (renumbered n) c.rules.result.now) c.deref.ensures.value ∙ ap (map (renumbered numbers)) c.rules.ensures.value in
+    subst (StandFor c.in-Ok.alphabet (HasRule A) (HasRule B) A.rules) (sym theirs)
+    (stand_for A B c.in-Ok.alphabet numbers c.requires.left.automaton c.requires.right.automaton c.in-Ok.ensures.symbols c.in-Ok.ensures.alphabet.distinct c.in-Ok.ensures.numbers)
+
+pub assemble-requires-clause-distinct : goal.assemble-requires-clause-distinct
+assemble-requires-clause-distinct c =
+    let B = c.args.right.now in
+    let numbers = c.in-Ok.numbers.items in
+    let theirs : c.deref-4.result.now ≡ map (renumbered numbers) B.rules =
+    c.deref-4.ensures.value ∙ c.in_ok-theirs.ensures ∙ ap (λ n. map (renumbered n) c.rules.result.now) c.deref.ensures.value ∙ ap (map (renumbered numbers)) c.rules.ensures.value in
+    subst (AllPairs ◌≢◌) (sym theirs) (renumbered_apart B c.in-Ok.alphabet numbers c.requires.right.automaton c.in-Ok.ensures.numbers)

@@ -1,0 +1,4 @@
+pub mod Results
+pub mod Closing
+pub mod Filing
+pub mod Joined

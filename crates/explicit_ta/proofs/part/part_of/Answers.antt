@@ -1,0 +1,39 @@
+use Rattle.std.proofs.Common.{◌≡◌, length, sym, ◌∙◌, subst, refl}
+use Rattle.std.specs.List.{AllZip}
+use Rattle.tree_definitions.specs.Automaton.{Automaton}
+use Rattle.tree_definitions.specs.Relation.{IsAt}
+use Rattle.ta_model.specs.Listing.{IsListed}
+use Rattle.ta_model.specs.Restriction.{RestrictsTo}
+use Rattle.explicit_ta.specs.Moves.{IsNumbering}
+use Rattle.explicit_ta.proofs.Parts.{part_listed, part_restricts, part_with, same_lists}
+use Rattle.explicit_ta.proofs.part.part_of.Goals as goal
+
+pub new-requires : goal.new-requires
+new-requires c =
+    let A = c.args.a.now in
+    let row = c.args.keep.now in
+    let numbers = c.in_ok-kept.numbers.items in
+    let names = c.in_ok-names.names.items in
+    let listed = c.states-states.ensures.listed in
+    let nb : IsNumbering row c.in_ok-kept.kept.items numbers (length A.states) = rw c.requires at c.in_ok-kept.ensures in
+    let named : AllZip (IsAt A.states) c.in_ok-kept.kept.items names = rw (c.states-states.ensures.value, c.deref.ensures.value) at c.in_ok-names.ensures in
+    let is : ◌≡◌ {A = Automaton} (record { name = c.in_ok-name.name; symbols = c.in_ok-symbols.symbols.items; states = names; finals = c.in_ok-finals.finals.items; rules = c.in_ok-rules.rules.items }) (part_with A row numbers names) =
+    same_lists (record { name = c.in_ok-name.name; symbols = c.in_ok-symbols.symbols.items; states = names; finals = c.in_ok-finals.finals.items; rules = c.in_ok-rules.rules.items }) (part_with A row numbers names)
+    (c.in_ok-name.ensures.cases ∙ c.name.ensures.value) (c.in_ok-symbols.ensures.items_if_clones_equal (λ x y same. same) ∙ c.symbols.ensures.value) refl
+    (rw (c.deref-2.ensures.value, c.finals.ensures.value) at c.in_ok-finals.ensures) (rw (c.deref-3.ensures.value, c.rules.ensures.value) at c.in_ok-rules.ensures) in
+    subst IsListed (sym is) (part_listed A listed row c.in_ok-kept.kept.items numbers names c.requires nb named)
+
+pub returns : goal.returns
+returns c =
+    let A = c.args.a.now in
+    let row = c.args.keep.now in
+    let numbers = c.in_ok-kept.numbers.items in
+    let names = c.in_ok-names.names.items in
+    let listed = c.states-states.ensures.listed in
+    let nb : IsNumbering row c.in_ok-kept.kept.items numbers (length A.states) = rw c.requires at c.in_ok-kept.ensures in
+    let named : AllZip (IsAt A.states) c.in_ok-kept.kept.items names = rw (c.states-states.ensures.value, c.deref.ensures.value) at c.in_ok-names.ensures in
+    let is : ◌≡◌ {A = Automaton} (record { name = c.in_ok-name.name; symbols = c.in_ok-symbols.symbols.items; states = names; finals = c.in_ok-finals.finals.items; rules = c.in_ok-rules.rules.items }) (part_with A row numbers names) =
+    same_lists (record { name = c.in_ok-name.name; symbols = c.in_ok-symbols.symbols.items; states = names; finals = c.in_ok-finals.finals.items; rules = c.in_ok-rules.rules.items }) (part_with A row numbers names)
+    (c.in_ok-name.ensures.cases ∙ c.name.ensures.value) (c.in_ok-symbols.ensures.items_if_clones_equal (λ x y same. same) ∙ c.symbols.ensures.value) refl
+    (rw (c.deref-2.ensures.value, c.finals.ensures.value) at c.in_ok-finals.ensures) (rw (c.deref-3.ensures.value, c.rules.ensures.value) at c.in_ok-rules.ensures) in
+    (c.in_ok-kept.kept.items, subst (λ T. RestrictsTo A T row c.in_ok-kept.kept.items) (sym (c.new.ensures ∙ is)) (part_restricts A listed row c.in_ok-kept.kept.items numbers names c.requires nb named))

@@ -1,0 +1,11 @@
+//! Rules by parent, then by symbol, in clusters that tables share.
+#![tactic(auto)]
+
+mod cluster;
+mod clusters;
+mod group;
+#[cfg(test)]
+mod tests;
+
+pub use clusters::Clusters;
+pub use group::copied;

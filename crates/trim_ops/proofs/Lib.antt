@@ -1,0 +1,6 @@
+pub mod Marked
+pub mod UsefulSteps
+pub mod Bridge
+pub mod Indexing
+pub mod Views
+pub mod SameRules
