@@ -1,8 +1,8 @@
 -- The last node's tree is accepted where a final state is among those that it reaches.
-use Rattle.std.proofs.Common.{◌≡◌, ◌<◌, ◌+◌, ℕ, List, take, length, get_or, sym, subst, ap, ◌∙◌, arith}
-use Rattle.std.specs.Prelude.{All, Contains, ◌↔◌}
+use Rattle.std.proofs.Common.{◌≡◌, ◌+◌, ℕ, List, length, subst, arith}
+use Rattle.std.specs.Prelude.{◌↔◌}
 use Rattle.tree_definitions.specs.Automaton.{Automaton}
-use Rattle.tree_definitions.specs.Relation.{Row, Has, IsAt}
+use Rattle.tree_definitions.specs.Relation.{Row, IsAt}
 use Rattle.tree_definitions.specs.Witness.{IsTreeOf}
 use Rattle.witness_trees.specs.Nodes.{NodeList}
 use Rattle.witness_trees.specs.Reached.{AreReached}

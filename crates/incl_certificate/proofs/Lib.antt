@@ -4,3 +4,4 @@ pub mod Lacking
 pub mod Within
 pub mod Lines
 pub mod ReadBack
+pub mod Merging

@@ -1,12 +1,11 @@
 -- The two fixed lines of a certificate, and what is judged behind them.
-use Rattle.std.proofs.Common.{◌≡◌, ◌<◌, ◌≤◌, ◌+◌, ℕ, Bool, true, false, cond, List, ◌++◌, length, take, drop, refl, sym, ap, ◌∙◌, subst, arith}
+use Rattle.std.proofs.Common.{◌≡◌, ◌+◌, ℕ, Bool, true, false, cond, List, length, take, drop, refl, sym, ap, ◌∙◌, subst, arith}
 use Rattle.std.specs.Str.{bytes_eq}
 use Rattle.tree_definitions.specs.Automaton.{Automaton}
 use Rattle.tree_definitions.specs.Joint.{joint_symbols}
 use Rattle.tree_definitions.specs.Witness.{NodeRow}
 use Rattle.witness_trees.specs.Judged.{Verdict, Is, BadAt, UnknownAt, judged}
 use Rattle.incl_certificate.specs.Text.{answer_line, kind_line, moved, line_due, judged_certificate}
-use Rattle.incl_certificate.proofs.Within.{IsWithin, judged_within}
 
 line_fails : {X : Type 0} (line text : List ℕ) (next : List ℕ → Verdict X) → bytes_eq (take (length line) text) line ≡ false → line_due line next text ≡ BadAt 0
 line_fails line text next e = ap (λ b. cond b (moved (length line) (next (drop (length line) text))) (BadAt 0)) e

@@ -1,6 +1,6 @@
 -- A place that reading refuses stands in the text or at its end.
-use Rattle.std.proofs.Common.{◌≡◌, ◌≤◌, ◌+◌, ◌-◌, ℕ, zero, suc, Bool, true, false, cond, List, [], ◌∷◌, ◌++◌, length, map, Some, None, sym, subst, arith}
-use Rattle.std.specs.Prelude.{IfSome, ◌==◌, option_map, option_and_then, codes}
+use Rattle.std.proofs.Common.{◌≡◌, ◌≤◌, ◌+◌, ◌-◌, ℕ, zero, suc, Bool, true, false, cond, List, [], ◌∷◌, ◌++◌, length, map, Some, None, subst, arith}
+use Rattle.std.specs.Prelude.{IfSome, ◌==◌, option_map, option_and_then}
 use Rattle.std.specs.declared.option.Option.{Option}
 use Rattle.tree_definitions.specs.Tree.{Symbol}
 use Rattle.tree_definitions.specs.Witness.{NodeRow}

@@ -1,5 +1,5 @@
 -- Certificates, and which of them can be written for two automata.
-use Rattle.std.specs.Prelude.{◌≡◌, ℕ, ◌<◌, List, length}
+use Rattle.std.specs.Prelude.{◌≡◌, ◌<◌, length}
 use Rattle.tree_definitions.specs.Automaton.{Automaton}
 use Rattle.tree_definitions.specs.Joint.{joint_symbols}
 use Rattle.witness_trees.specs.Nodes.{IsNodeList, NodeList}

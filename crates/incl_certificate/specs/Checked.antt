@@ -1,5 +1,5 @@
 -- What the checker answers.
-use Rattle.std.specs.Prelude.{◌≡◌, ℕ, length}
+use Rattle.std.specs.Prelude.{ℕ, length}
 use Rattle.tree_definitions.specs.Automaton.{Automaton}
 use Rattle.tree_definitions.specs.Witness.{NoCert}
 use Rattle.witness_trees.specs.Nodes.{NodeList}

@@ -23,7 +23,7 @@ pub fn fits(a: &Listed, b: &Listed, c: &Certificate) -> bool
             if nodes.len() == 0 {
                 return false;
             }
-            are_joint(a.symbols(), b.symbols(), nodes.symbols())
+            are_joint(a.symbols(), b.symbols(), nodes)
         }
     }
 }

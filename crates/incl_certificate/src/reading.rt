@@ -37,7 +37,7 @@ pub fn read(alloc: Global, text: &[u8], a: &Listed, b: &Listed) -> Result<Certif
     let Ok(symbols) = joint_of(alloc, a.symbols(), b.symbols()) else {
         return Err(CertError::Memory);
     };
-    match witness_trees::read(alloc, lines, &symbols) {
+    match witness_trees::read(alloc, lines, symbols.as_slice()) {
         Ok(nodes) => Ok(Certificate::Tree { nodes }),
         Err(NodesTextError::BadText { at }) => Err(CertError::BadText { at: 32 + at }),
         Err(NodesTextError::UnknownName { at }) => Err(CertError::UnknownName { at: 32 + at }),

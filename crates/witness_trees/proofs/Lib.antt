@@ -10,3 +10,5 @@ pub mod Spelled
 pub mod ReadBack
 pub mod Inverse
 pub mod OneRule
+pub mod Looked
+pub mod Labels

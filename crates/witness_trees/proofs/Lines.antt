@@ -1,5 +1,5 @@
 -- Judging the lines of nodes, one at a time.
-use Rattle.std.proofs.Common.{◌≡◌, ℕ, zero, suc, ◌+◌, ◌-◌, ◌<◌, ◌≤◌, inl, inr, Bool, true, false, eqb, cond, List, [], ◌∷◌, ◌++◌, length, take, drop, map, Option, Some, None, Err, refl, sym, ap, ap₂, ◌∙◌, subst, arith}
+use Rattle.std.proofs.Common.{◌≡◌, ℕ, suc, ◌+◌, ◌-◌, ◌<◌, ◌≤◌, inl, inr, Bool, true, false, eqb, cond, List, [], ◌∷◌, ◌++◌, length, take, drop, map, Option, Some, None, Err, refl, sym, ap, ap₂, ◌∙◌, subst, arith}
 use Rattle.std.specs.Prelude.{option_map, All, ◌&&◌, ◌==◌, nat_le}
 use Rattle.std.specs.List.{list_all}
 use Rattle.std.specs.Str.{bytes_eq}
@@ -16,41 +16,6 @@ use Rattle.witness_trees.specs.declared.reader.NodesTextError.{NodesTextError}
 use Rattle.witness_trees.specs.declared.reader.NodesTextError.TheVariants as errors
 use Rattle.witness_trees.proofs.Symbols.{and_parts}
 use Rattle.witness_trees.proofs.Reaching.{at_push}
-
--- places in the rest of a list, after i elements
-abbrev pub places_on : ℕ → Option ℕ → Option ℕ
-places_on i place = option_map (λ j. i + j) place
-
-pub places_none : (place : Option ℕ) → place ≡ places_on 0 place
-places_none None = refl
-places_none (Some j) = let e : j ≡ 0 + j = omega arith in ap Some e
-
-places_suc : (i : ℕ) (place : Option ℕ) → places_on i (option_map suc place) ≡ places_on (i + 1) place
-places_suc i None = refl
-places_suc i (Some j) = let e : i + suc j ≡ i + 1 + j = omega arith in ap Some e
-
-pub place_here : (symbols : List Symbol) (name : List ℕ) (rank i : ℕ) (a : Symbol) → IsAt symbols i a → (bytes_eq a.name name && (a.rank == rank)) ≡ true → place_in symbols name rank ≡ places_on i (place_in (drop i symbols) name rank) → place_in symbols name rank ≡ Some i
-place_here symbols name rank i a at e h = h ∙ ap (places_on i) (first symbols i at) ∙ ap Some (omega arith)
-  where
-    first : (xs : List Symbol) (n : ℕ) → IsAt xs n a → place_in (drop n xs) name rank ≡ Some 0
-    first [] n p = absurd cc
-    first (x ∷ xs) zero p =
-        let same : x ≡ a = cc in
-        ap (λ t. cond t (Some 0) (option_map suc (place_in xs name rank))) (ap (λ (y : Symbol). bytes_eq y.name name && (y.rank == rank)) same ∙ e)
-    first (x ∷ xs) (suc n) p = first xs n p
-
-pub place_later : (symbols : List Symbol) (name : List ℕ) (rank i : ℕ) (a : Symbol) → IsAt symbols i a → (bytes_eq a.name name && (a.rank == rank)) ≡ false → place_in symbols name rank ≡ places_on i (place_in (drop i symbols) name rank) → place_in symbols name rank ≡ places_on (i + 1) (place_in (drop (i + 1) symbols) name rank)
-place_later symbols name rank i a at e h = h ∙ ap (places_on i) (next symbols i at) ∙ places_suc i (place_in (drop (i + 1) symbols) name rank)
-  where
-    next : (xs : List Symbol) (n : ℕ) → IsAt xs n a → place_in (drop n xs) name rank ≡ option_map suc (place_in (drop (n + 1) xs) name rank)
-    next [] n p = absurd cc
-    next (x ∷ xs) zero p =
-        let same : x ≡ a = cc in
-        ap (λ t. cond t (Some 0) (option_map suc (place_in xs name rank))) (ap (λ (y : Symbol). bytes_eq y.name name && (y.rank == rank)) same ∙ e)
-    next (x ∷ xs) (suc n) p = let e : suc (n + 1) ≡ suc n + 1 = omega arith in next xs n p ∙ ap (λ k. option_map suc (place_in (drop k (x ∷ xs)) name rank)) e
-
-pub place_past : (symbols : List Symbol) (name : List ℕ) (rank i : ℕ) → length symbols ≤ i → place_in symbols name rank ≡ places_on i (place_in (drop i symbols) name rank) → place_in symbols name rank ≡ None
-place_past symbols name rank i le h = h ∙ ap (λ xs. places_on i (place_in xs name rank)) (drop_all i symbols le)
 
 -- the symbol that was found
 pub place_means : (symbols : List Symbol) (name : List ℕ) (rank i : ℕ) → place_in symbols name rank ≡ Some i → (a : Symbol) × IsAt symbols i a × (rank ≡ a.rank) × (a.name ≡ name)

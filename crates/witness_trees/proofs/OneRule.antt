@@ -1,9 +1,9 @@
 -- The automaton with one rule, from its one leaf to its one state, is well formed.
-use Rattle.std.proofs.Common.{◌≡◌, ◌≢◌, ◌<◌, ◌≤◌, ℕ, List, [], ◌∷◌, length, refl, subst, arith}
+use Rattle.std.proofs.Common.{◌≢◌, ◌<◌, ℕ, List, [], ◌∷◌, refl, arith}
 use Rattle.std.specs.Prelude.{All, AllPairs}
 use Rattle.std.proofs.lemmas.List.Elements.{All-cons, All-nil}
 use Rattle.tree_definitions.specs.Tree.{Symbol}
-use Rattle.tree_definitions.specs.Automaton.{Automaton, Rule, IsAutomaton, FitsRule, IsState}
+use Rattle.tree_definitions.specs.Automaton.{Automaton, Rule, IsAutomaton, FitsRule}
 use Rattle.tree_definitions.specs.Name.{IsName}
 use Rattle.ta_model.specs.Listing.{IsListed}
 

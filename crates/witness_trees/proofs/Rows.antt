@@ -1,5 +1,5 @@
 -- Places of a row, and lists side by side.
-use Rattle.std.proofs.Common.{◌≡◌, ℕ, zero, suc, ◌+◌, ◌<◌, ◌⊎◌, inl, inr, true, false, List, [], ◌∷◌, ◌++◌, length, take, set, replicate, get_or, Some, refl, sym, ap, ◌∙◌, subst, arith}
+use Rattle.std.proofs.Common.{◌≡◌, ℕ, zero, suc, ◌+◌, ◌<◌, ◌⊎◌, inl, inr, true, false, List, [], ◌∷◌, ◌++◌, length, take, set, replicate, get_or, Some, refl, sym, ap, subst, arith}
 use Rattle.std.specs.List.{AllZip}
 use Rattle.std.proofs.lemmas.List.{take_more}
 use Rattle.tree_definitions.specs.Relation.{Row, Has, IsAt}
@@ -9,12 +9,6 @@ zip_push R [] [] x y h r = (r, tt)
 zip_push R [] (b ∷ bs) x y h r = absurd h
 zip_push R (a ∷ as') [] x y h r = absurd h
 zip_push R (a ∷ as') (b ∷ bs) x y h r = (h.0, zip_push R as' bs x y h.1 r)
-
--- one more element of the first list, read at i, and one pushed to the second
-pub zip_more : {A B : Type 0} (R : A → B → Type 0) (xs : List A) (ys new : List B) (i : ℕ) (x : A) (y : B) → i < length xs → x ≡ get_or xs i x → new ≡ ys ++ y ∷ [] → AllZip R (take i xs) ys → R x y → AllZip R (take (i + 1) xs) new
-zip_more R xs ys new i x y lt is grown h r =
-    let front : take i xs ++ x ∷ [] ≡ take (i + 1) xs = ap (λ z. take i xs ++ z ∷ []) is ∙ sym (take_more xs i x lt) in
-    subst (λ zs. AllZip R zs new) front (subst (λ zs. AllZip R (take i xs ++ x ∷ []) zs) (sym grown) (zip_push R (take i xs) ys x y h r))
 
 -- a place that was set
 pub has_set : (row : Row) (i : ℕ) → i < length row → Has (set row i true) i

@@ -4,6 +4,12 @@ use Rattle.tree_definitions.specs.Tree.{Symbol}
 use Rattle.tree_definitions.specs.Relation.{IsAt}
 use Rattle.tree_definitions.specs.Witness.{NodeRow, AreNodes}
 
+-- distinct symbols with ranks of one byte, and not too many for numbers of 32 bits
+pub record AreSymbols (symbols : List Symbol) : Type 0 where
+  pub distinct : AllPairs ◌≢◌ symbols
+  pub few : length symbols < 4294967295
+  pub ranks : All (λ a. a.rank ≤ 255) symbols
+
 -- the symbols that nodes may have, and the nodes in order
 pub record NodeList : Type 0 where
   pub symbols : List Symbol

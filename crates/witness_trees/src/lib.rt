@@ -11,6 +11,7 @@ mod nodes;
 mod printer;
 mod reader;
 mod states;
+mod symbol_places;
 
 pub use laws::{only_printed_nodes_are_read, printed_nodes_are_read_back};
 pub use nodes::{NodeError, Nodes};

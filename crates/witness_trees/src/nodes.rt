@@ -1,10 +1,11 @@
 //! A list of nodes.
 
-ghost use Rattle.std.specs.Prelude.{◌≡◌, ◌≢◌, ◌<◌, ◌↔◌, [], ◌∷◌, ◌++◌, length, AllPairs, IfOk, OnErr, OnOk, IsErrOf, IsTrue};
+ghost use Rattle.std.specs.Prelude.{◌≡◌, ◌≢◌, ◌<◌, ◌↔◌, [], ◌∷◌, ◌++◌, length, AllPairs, Contains, IfNone, IfOk, IfSome, OnErr, OnOk, IsErrOf, IsTrue};
 ghost use Rattle.tree_definitions.specs.Relation.{IsAt};
 ghost use Rattle.tree_definitions.specs.Witness.{NodeRow, FitsNode};
 ghost use Rattle.witness_trees.specs.Nodes.{IsNodeList, AreOfRank, AreEarlier};
 
+use crate::symbol_places::SymbolPlaces;
 use smallvec::SmallVec;
 use std::alloc::{AllocError, Global};
 use std::marker::Model;
@@ -39,7 +40,7 @@ impl Model for Node {
 /// earlier nodes.
 #[derive(Debug, Drop)]
 pub struct Nodes {
-    symbols: Vec<Symbol>,
+    symbols: SymbolPlaces,
     nodes: Vec<Node>,
 }
 
@@ -48,9 +49,9 @@ impl Model for Nodes {
 
     ghost Value = { NodeList };
 
-    ghost view = { λ n. record { symbols = n.symbols.items; rows = n.nodes.items } };
+    ghost view = { λ n. record { symbols = n.symbols; rows = n.nodes.items } };
 
-    ghost invariant = { λ n. IsNodeList (record { symbols = n.symbols.items; rows = n.nodes.items }) };
+    ghost invariant = { λ n. IsNodeList (record { symbols = n.symbols; rows = n.nodes.items }) };
 }
 
 /// Whether the children are as many as the symbol's rank.
@@ -86,17 +87,16 @@ impl Nodes {
         requires few { length symbols.now < 4294967295 }
         ensures { IfOk result (λ n. n ≡ record { symbols = symbols.now; rows = [] }) }
     {
-        let symbols = Vec::from_clones(alloc, symbols)?;
         Ok(Nodes {
-            symbols,
+            symbols: SymbolPlaces::of(alloc, symbols)?,
             nodes: Vec::new(alloc),
         })
     }
 
     /// These symbols and nodes.
-    pub(crate) fn of_parts(symbols: Vec<Symbol>, nodes: Vec<Node>) -> Nodes
-        requires { IsNodeList (record { symbols = symbols.items; rows = nodes.items }) }
-        ensures value { result ≡ record { symbols = symbols.items; rows = nodes.items } }
+    pub(crate) fn of_parts(symbols: SymbolPlaces, nodes: Vec<Node>) -> Nodes
+        requires { IsNodeList (record { symbols = symbols; rows = nodes.items }) }
+        ensures value { result ≡ record { symbols = symbols; rows = nodes.items } }
         ensures list { IsNodeList result }
     {
         Nodes { symbols, nodes }
@@ -123,7 +123,7 @@ impl Nodes {
             ↔ (AreOfRank self.old.symbols symbol kids.now × (¬ AreEarlier (length self.old.rows) kids.now)) }
         ensures err { OnErr result (self.new ≡ self.old) }
     {
-        if !are_of_rank(&self.symbols, symbol, kids) {
+        if !are_of_rank(self.symbols.list(), symbol, kids) {
             return Err(NodeError::BadRank);
         }
         let number = self.nodes.len();
@@ -148,7 +148,16 @@ impl Nodes {
         ensures value { result.now ≡ self.now.symbols }
         ensures list { IsNodeList self.now }
     {
-        &self.symbols
+        self.symbols.list()
+    }
+
+    /// The place of a symbol that nodes may have. Takes no memory.
+    pub fn find(&self, symbol: &Symbol) -> Option<u32>
+        ensures found { IfSome result (λ i. IsAt self.now.symbols i symbol.now) }
+        ensures none { IfNone result (Contains self.now.symbols symbol.now → ⊥) }
+        ensures list { IsNodeList self.now }
+    {
+        self.symbols.find(symbol)
     }
 
     /// The place of node i's symbol.

@@ -12,6 +12,7 @@ ghost use Rattle.witness_trees.specs.NodesText.{nodes_text};
 ghost use Rattle.witness_trees.specs.Views.{line_view};
 
 use crate::nodes::{Node, Nodes};
+use crate::symbol_places::SymbolPlaces;
 use smallvec::SmallVec;
 use std::alloc::{AllocError, Global};
 use ta_model::{Kids, Name, NameError, Symbol};
@@ -195,25 +196,6 @@ fn written_of(alloc: Global, at: u64, line: &[u8]) -> Result<Line, NodesTextErro
     }
 }
 
-fn is_called(symbol: &Symbol, name: &Name, rank: usize) -> bool
-    ensures { result ≡ (bytes_eq symbol.now.name name.now && (symbol.now.rank == rank)) }
-{
-    symbol.name == *name && symbol.rank as usize == rank
-}
-
-/// The place of the symbol with this name and rank.
-fn symbol_place(symbols: &[Symbol], name: &Name, rank: usize) -> Option<u32>
-    requires { length symbols.now < 4294967295 }
-    ensures { result ≡ place_in symbols.now name.now rank }
-{
-    for i in 0..symbols.len() {
-        if is_called(&symbols[i], name, rank) {
-            return Some(i as u32);
-        }
-    }
-    None
-}
-
 /// Whether the number is that of node k, and the children are earlier nodes.
 fn are_in_order(k: usize, line: &Line) -> bool
     requires { k < 4294967295 }
@@ -243,7 +225,7 @@ fn places_from(alloc: Global, numbers: &[u64]) -> Result<Kids, AllocError>
 /// The node of a line, which is that of node k and begins at this byte.
 fn node_of(
     alloc: Global,
-    symbols: &[Symbol],
+    symbols: &SymbolPlaces,
     k: usize,
     at: u64,
     line: &[u8],
@@ -257,15 +239,22 @@ fn node_of(
         Ok(line) => line,
         Err(error) => return Err(error),
     };
-    let Some(symbol) = symbol_place(symbols, &line.name, line.kids.len()) else {
+    let in_order = are_in_order(k, &line);
+    let Line {
+        place,
+        name,
+        kids,
+        ..
+    } = line;
+    let Some(symbol) = symbols.find_called(name, kids.len()) else {
         return Err(NodesTextError::UnknownName {
-            at: at + line.place as u64,
+            at: at + place as u64,
         });
     };
-    if !are_in_order(k, &line) {
+    if !in_order {
         return Err(NodesTextError::BadText { at });
     }
-    match places_from(alloc, &line.kids) {
+    match places_from(alloc, &kids) {
         Ok(kids) => Ok(Node { symbol, kids }),
         Err(_) => Err(NodesTextError::Memory),
     }
@@ -293,7 +282,7 @@ fn count_of(line: &[u8]) -> Option<u64>
 /// The nodes of the lines from this byte on, of which so many are due.
 fn lines_of(
     alloc: Global,
-    symbols: &[Symbol],
+    symbols: &SymbolPlaces,
     due: u64,
     text: &[u8],
     from: usize,
@@ -344,12 +333,11 @@ pub fn read(alloc: Global, text: &[u8], symbols: &[Symbol]) -> Result<Nodes, Nod
     let Some(due) = count_of(&text[..end]) else {
         return Err(NodesTextError::BadText { at: 0 });
     };
-    let nodes = match lines_of(alloc, symbols, due, text, end + 1) {
-        Ok(nodes) => nodes,
-        Err(error) => return Err(error),
-    };
-    let Ok(symbols) = Vec::from_clones(alloc, symbols) else {
+    let Ok(symbols) = SymbolPlaces::of(alloc, symbols) else {
         return Err(NodesTextError::Memory);
     };
-    Ok(Nodes::of_parts(symbols, nodes))
+    match lines_of(alloc, &symbols, due, text, end + 1) {
+        Ok(nodes) => Ok(Nodes::of_parts(symbols, nodes)),
+        Err(error) => Err(error),
+    }
 }

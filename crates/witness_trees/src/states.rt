@@ -4,6 +4,7 @@ ghost use Rattle.std.specs.Prelude.{◌≡◌, ◌↔◌, ℕ, ◌+◌, ◌*◌,
 ghost use Rattle.std.specs.List.{AllZip};
 ghost use Rattle.std.specs.List.Sorted.{IsNonDecreasingBy};
 ghost use Rattle.tree_definitions.specs.Relation.{Has};
+ghost use Rattle.witness_trees.specs.Nodes.{IsNodeList};
 ghost use Rattle.witness_trees.specs.Reached.{AreReached};
 ghost use Rattle.witness_trees.specs.Marking.{AreAmong, Gains, GainsOne, IsIndexed, IsPlaceOf, Steps, first_of, group_number, group_of};
 
@@ -19,31 +20,21 @@ struct Entry {
     rule: u32,
 }
 
-/// The place of the symbol in the list.
-fn place_of(symbols: &[Symbol], wanted: &Symbol) -> Option<u32>
-    requires { length symbols.now ≤ 65535 }
-    ensures { IsPlaceOf symbols.now wanted.now result }
-{
-    for i in 0..symbols.len() {
-        if symbols[i] == *wanted {
-            return Some(i as u32);
-        }
-    }
-    None
-}
-
-/// The place of each symbol in the other list.
+/// The place in the list of each symbol of the nodes.
 fn places_of(
     alloc: Global,
+    nodes: &Nodes,
     symbols: &[Symbol],
-    wanted: &[Symbol],
 ) -> Result<Vec<Option<u32>>, AllocError>
     requires { length symbols.now ≤ 65535 }
-    ensures { IfOk result (λ v. AllZip (IsPlaceOf symbols.now) wanted.now v.items) }
+    ensures places { IfOk result (λ v. AllZip (IsPlaceOf symbols.now) nodes.now.symbols v.items) }
+    ensures list { IsNodeList nodes.now }
 {
-    let mut places = Vec::new(alloc);
-    for a in wanted {
-        places.push(place_of(symbols, a))?;
+    let mut places = vec![in alloc; None; nodes.symbols().len()]?;
+    for i in 0..symbols.len() {
+        if let Some(k) = nodes.find(&symbols[i]) {
+            places[k as usize] = Some(i as u32);
+        }
     }
     Ok(places)
 }
@@ -182,10 +173,10 @@ fn mark_groups(
     ensures { Gains rules.now reached.now label kids.now
         (λ r rule. Has firsts.now (first_of rule.kids)) row.old row.new }
 {
-    for q in 0..firsts.len() {
-        if firsts.get(q) {
-            mark_group(row, rules, index, label, q as u32, kids, reached);
-        }
+    let mut from = 0;
+    while let Some(q) = firsts.first_from(from) {
+        mark_group(row, rules, index, label, q as u32, kids, reached);
+        from = q + 1;
     }
 }
 
@@ -236,7 +227,7 @@ fn row_of(
 pub fn reach(alloc: Global, nodes: &Nodes, a: &Listed) -> Result<Vec<Row>, AllocError>
     ensures { IfOk result (λ rows. AreReached a.now nodes.now rows.items) }
 {
-    let labels = places_of(alloc, a.symbols(), nodes.symbols())?;
+    let labels = places_of(alloc, nodes, a.symbols())?;
     let index = index_of(alloc, a.rules())?;
     let mut reached = Vec::new(alloc);
     for k in 0..nodes.len() {

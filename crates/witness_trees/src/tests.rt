@@ -59,6 +59,8 @@ fn fault(rt: &impl Abort, alloc: Global, symbols: &[Symbol], text: &[u8]) -> Opt
 fn nodes_share_their_children(rt: HostRuntime) -> Result<(), Fail> {
     let symbols = alphabet(rt.alloc())?;
     let mut nodes = Nodes::new(rt.alloc(), &symbols)?;
+    assert_eq!(rt; nodes.find(&symbols[0]), Some(0));
+    assert_eq!(rt; nodes.find(&symbols[1]), Some(1));
     assert_eq!(rt;
         add(&rt, &mut nodes, 1, &[]).err(),
         Some(NodeError::BadRank)

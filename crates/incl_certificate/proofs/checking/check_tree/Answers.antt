@@ -1,6 +1,5 @@
-use Rattle.std.proofs.Common.{◌≡◌, true, false, sym, ap, ◌∙◌, subst, length}
+use Rattle.std.proofs.Common.{sym, ◌∙◌, subst}
 use Rattle.std.proofs.lemmas.Bool.{true≢false}
-use Rattle.incl_certificate.specs.Trees.{IsAccepted}
 use Rattle.incl_certificate.specs.Checked.{FailsTree, Refused, Accepted}
 use Rattle.incl_certificate.proofs.checking.check_tree.Goals as goal
 

@@ -1,4 +1,4 @@
-use Rattle.std.proofs.Common.{◌≡◌, ◌≢◌, ◌++◌, List, true, false, length, take, drop, refl, sym, ap, ◌∙◌, subst, take-append-drop}
+use Rattle.std.proofs.Common.{◌≡◌, ◌++◌, List, length, take, drop, refl, sym, ap, ◌∙◌, take-append-drop}
 use Rattle.std.specs.Prelude.{IsTrue, ◌↔◌, not}
 use Rattle.std.proofs.Math.Seq.{take-append_seam}
 use Rattle.std.proofs.lemmas.Bool.{true≢false}
@@ -12,22 +12,26 @@ use Rattle.incl_certificate.proofs.joint.are_joint.Goals as goal
 front_is : (symbols first more : List Symbol) → symbols ≡ first ++ more → take (length first) symbols ≡ first
 front_is symbols first more e = ap (take (length first)) e ∙ take-append_seam first more
 
-pub returns-then-ne : goal.returns-then-ne
-returns-then-ne c = (
+pub returns-then-ne-clause-joint : goal.returns-then-ne-clause-joint
+returns-then-ne-clause-joint c = (
   λ no. absurd (true≢false (sym no)),
   λ same.
-      let front : c.split_at.result.0.now ≡ c.args.first.now = c.split_at.ensures.front ∙ front_is c.args.symbols.now c.args.first.now (lacking c.args.first.now c.args.second.now) same in
-      absurd (true≢false (sym c.if-ne.true ∙ c.ne.ensures ∙ ap not ((slice_eq-Decides same_symbol-Decides c.split_at.result.0.now c.args.first.now _ refl).1 front))),
+      let first = c.args.first.now in
+      let front : c.split_at.result.0.now ≡ first = c.split_at.ensures.front ∙ ap (take (length first)) c.symbols-symbols.ensures.value ∙ front_is c.args.nodes.now.symbols first (lacking first c.args.second.now) same in
+      absurd (true≢false (sym c.if-ne.true ∙ c.ne.ensures ∙ ap not ((slice_eq-Decides same_symbol-Decides c.split_at.result.0.now first _ refl).1 front))),
 )
 
-pub returns : goal.returns
-returns c =
-    let front : c.split_at.result.0.now ≡ c.args.first.now =
-    (slice_eq-Decides same_symbol-Decides c.split_at.result.0.now c.args.first.now _ refl).0 (from_not _ (sym c.ne.ensures ∙ c.if-ne.false)) in
-    let whole : c.args.symbols.now ≡ c.args.first.now ++ c.split_at.result.1.now =
-    sym (take-append-drop (length c.args.first.now) c.args.symbols.now)
-    ∙ ap (λ l. l ++ drop (length c.args.first.now) c.args.symbols.now) (sym c.split_at.ensures.front ∙ front)
-    ∙ ap (λ l. c.args.first.now ++ l) (sym c.split_at.ensures.back) in (
-      λ yes. whole ∙ ap (λ l. c.args.first.now ++ l) (c.are_lacking.ensures.0 yes),
-      λ same. c.are_lacking.ensures.1 (cancel_left c.args.first.now c.split_at.result.1.now (lacking c.args.first.now c.args.second.now) (sym whole ∙ same)),
+pub returns-clause-joint : goal.returns-clause-joint
+returns-clause-joint c =
+    let first = c.args.first.now in
+    let symbols = c.args.nodes.now.symbols in
+    let front : take (length first) symbols ≡ first =
+    ap (take (length first)) (sym c.symbols-symbols.ensures.value) ∙ sym c.split_at.ensures.front ∙ (slice_eq-Decides same_symbol-Decides c.split_at.result.0.now first _ refl).0 (from_not _ (sym c.ne.ensures ∙ c.if-ne.false)) in
+    let whole : symbols ≡ first ++ c.split_at.result.1.now =
+    sym (take-append-drop (length first) symbols)
+    ∙ ap (λ l. l ++ drop (length first) symbols) front
+    ∙ ap (λ l. first ++ l) (sym (c.split_at.ensures.back ∙ ap (drop (length first)) c.symbols-symbols.ensures.value)) in
+    let says : IsTrue c.are_lacking.result ↔ (c.split_at.result.1.now ≡ lacking first c.args.second.now) = rw front at c.are_lacking.ensures in (
+      λ yes. whole ∙ ap (λ l. first ++ l) (says.0 yes),
+      λ same. says.1 (cancel_left first c.split_at.result.1.now (lacking first c.args.second.now) (sym whole ∙ same)),
     )

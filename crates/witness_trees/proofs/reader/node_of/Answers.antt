@@ -13,14 +13,14 @@ returns-in_default c =
     let l = line_view c.in-Ok.line in
     let count : c.len.result ≡ length c.in-Ok.line.kids.items = c.len.ensures ∙ c.in-Ok.line.kids.ok.0 in
     node_judged c.args.symbols.now c.args.k c.args.at c.args.line.now l c.requires.node c.in-Ok.ensures.spelled
-    ∙ named_unknown c.args.k c.args.at l _ (ap (place_in c.args.symbols.now c.in-Ok.line.name) (sym count) ∙ sym c.symbol_place.ensures ∙ c.in_default.is)
+    ∙ named_unknown c.args.k c.args.at l _ (ap (place_in c.args.symbols.now c.in-Ok.line.name) (sym count) ∙ sym c.find_called.ensures ∙ c.in_default.is)
 
-pub returns-then-not-are_in_order : goal.returns-then-not-are_in_order
-returns-then-not-are_in_order c =
+pub returns-then-not-in_order : goal.returns-then-not-in_order
+returns-then-not-in_order c =
     let l = line_view c.in-Ok.line in
     let count : c.len.result ≡ length c.in-Ok.line.kids.items = c.len.ensures ∙ c.in-Ok.line.kids.ok.0 in
     node_judged c.args.symbols.now c.args.k c.args.at c.args.line.now l c.requires.node c.in-Ok.ensures.spelled
-    ∙ named_bad c.args.k c.args.at c.in-Some.symbol l _ (ap (place_in c.args.symbols.now c.in-Ok.line.name) (sym count) ∙ sym c.symbol_place.ensures ∙ c.in-Some.is) (sym c.are_in_order.ensures ∙ c.if-not-are_in_order.true)
+    ∙ named_bad c.args.k c.args.at c.in-Some.symbol l _ (ap (place_in c.args.symbols.now c.in-Ok.line.name) (sym count) ∙ sym c.find_called.ensures ∙ c.in-Some.is) (sym c.are_in_order-in_order.ensures ∙ c.if-not-in_order.true)
 
 pub returns-in-Ok-places_from : goal.returns-in-Ok-places_from
 returns-in-Ok-places_from c =
@@ -28,7 +28,7 @@ returns-in-Ok-places_from c =
     let count : c.len.result ≡ length c.in-Ok.line.kids.items = c.len.ensures ∙ c.in-Ok.line.kids.ok.0 in
     let kids : map (λ n. n - 1) c.in-Ok.line.kids.items ≡ c.in-Ok-places_from.kids.items = sym (c.in-Ok-places_from.ensures ∙ ap (map (λ n. n - 1)) c.deref.ensures.value) in
     node_judged c.args.symbols.now c.args.k c.args.at c.args.line.now l c.requires.node c.in-Ok.ensures.spelled
-    ∙ named_right c.args.k c.args.at c.in-Some.symbol l _ (ap (place_in c.args.symbols.now c.in-Ok.line.name) (sym count) ∙ sym c.symbol_place.ensures ∙ c.in-Some.is) (sym c.are_in_order.ensures ∙ c.if-not-are_in_order.false)
+    ∙ named_right c.args.k c.args.at c.in-Some.symbol l _ (ap (place_in c.args.symbols.now c.in-Ok.line.name) (sym count) ∙ sym c.find_called.ensures ∙ c.in-Some.is) (sym c.are_in_order-in_order.ensures ∙ c.if-not-in_order.false)
     ∙ ap (node c.in-Some.symbol) kids
   where
     node : ℕ → List ℕ → Verdict NodeRow
