@@ -1,20 +1,19 @@
 -- The parts of a product make the product.
-use Rattle.std.proofs.Common.{◌≡◌, ◌≢◌, ◌⊎◌, ◌↔◌, inl, inr, ℕ, zero, suc, ◌<◌, ◌+◌, ◌≤◌, List, [], ◌∷◌, ◌++◌, map, length, get_or, Some, codes, refl, sym, ap, ◌∙◌, subst, arith, ⊎_elim}
-use Rattle.std.specs.Prelude.{All, Contains, AllPairs}
+use Rattle.std.proofs.Common.{◌≡◌, ◌≢◌, ◌⊎◌, ◌↔◌, inl, inr, ℕ, zero, suc, ◌<◌, ◌≤◌, List, [], ◌∷◌, map, length, codes, refl, sym, ap, ◌∙◌, subst, arith}
+use Rattle.std.specs.Prelude.{Contains, AllPairs}
 use Rattle.std.specs.List.{AllZip}
-use Rattle.std.proofs.lemmas.List.{length-map}
-use Rattle.std.proofs.lemmas.Option.{slice_get_within, slice_get-get_or}
+use Rattle.std.proofs.lemmas.Option.{slice_get_within}
 use Rattle.tree_definitions.specs.Tree.{Symbol}
-use Rattle.tree_definitions.specs.Automaton.{Automaton, Rule, IsLabel, IsRule, HasRule, IsFinal}
-use Rattle.tree_definitions.specs.Product.{Both, Precedes, AreReachedTogether, MultipliesTo, pair_name}
+use Rattle.tree_definitions.specs.Automaton.{Automaton, Rule, IsLabel, IsRule, HasRule}
+use Rattle.tree_definitions.specs.Product.{Both, Precedes, MultipliesTo, pair_name}
 use Rattle.tree_definitions.specs.Relation.{Row, Has, IsAt}
 use Rattle.tree_definitions.specs.Joint.{joint_symbols}
 use Rattle.tree_definitions.proofs.Members.{at_unique, place_of, contains_at}
-use Rattle.bool_ops.specs.Closing.{both, AreAlike, AreHeld, Together, Fits, IsClosed}
-use Rattle.bool_ops.specs.Joined.{HasLine, StandFor, IsPairOf, AreFinals, pairs_of}
+use Rattle.bool_ops.specs.Closing.{both, AreAlike, AreHeld, IsClosed}
+use Rattle.bool_ops.specs.Joined.{StandFor, IsPairOf, AreFinals, pairs_of}
 use Rattle.bool_ops.proofs.Filed.{at_distinct}
 use Rattle.bool_ops.proofs.Bridge.{together_exactly, lines_alike}
-use Rattle.bool_ops.proofs.Stands.{zip_at, from_map, at_map}
+use Rattle.bool_ops.proofs.Stands.{zip_at}
 
 pub zip_right : {X Y : Type 0} (R : X → Y → Type 0) (xs : List X) (ys : List Y) (i : ℕ) (x : X) → AllZip R xs ys → IsAt xs i x → (y : Y) × IsAt ys i y × R x y
 zip_right R [] [] i x z e = absurd cc
@@ -51,7 +50,7 @@ rights_of [] (q ∷ qs) e = absurd (omega (arith, e))
 rights_of (p ∷ ps) [] e = absurd (omega (arith, e))
 rights_of (p ∷ ps) (q ∷ qs) e = ap (λ xs. q ∷ xs) (rights_of ps qs (omega (arith, e)))
 
-pairs_again : (xs : List Both) → pairs_of (map (λ x. x.left) xs) (map (λ x. x.right) xs) ≡ xs
+pub pairs_again : (xs : List Both) → pairs_of (map (λ x. x.left) xs) (map (λ x. x.right) xs) ≡ xs
 pairs_again [] = refl
 pairs_again (x ∷ xs) = ap (λ ys. x ∷ ys) (pairs_again xs)
 

@@ -1,15 +1,11 @@
 -- What is reached together by lists of rules is what one tree reaches in both automata.
-use Rattle.std.proofs.Common.{◌≡◌, ◌≢◌, ◌⊎◌, ◌↔◌, inl, inr, ℕ, zero, suc, ◌<◌, ◌+◌, ◌≤◌, List, [], ◌∷◌, ◌++◌, map, length, get_or, Some, refl, sym, ap, ◌∙◌, subst, arith, ⊎_elim}
-use Rattle.std.specs.Prelude.{All, Contains, AllPairs}
-use Rattle.std.specs.List.{AllZip}
-use Rattle.std.proofs.lemmas.Option.{slice_get_within, slice_get-get_or}
+use Rattle.std.proofs.Common.{◌≡◌, ◌↔◌, ℕ, zero, suc, List, [], ◌∷◌, length, refl, sym, ap, ◌∙◌, subst, arith}
 use Rattle.tree_definitions.specs.Tree.{Symbol, Tree, Node, Trees, NoTrees, More}
-use Rattle.tree_definitions.specs.Automaton.{Automaton, Rule, IsLabel, IsRule, HasRule, IsAutomaton, FitsRule}
-use Rattle.tree_definitions.specs.Language.{Reaches, ReachesBy, ReachEachBy}
-use Rattle.tree_definitions.specs.Product.{Both, AreReachedTogether}
+use Rattle.tree_definitions.specs.Automaton.{Rule}
+use Rattle.tree_definitions.specs.Language.{ReachesBy, ReachEachBy}
+use Rattle.tree_definitions.specs.Product.{Both}
 use Rattle.tree_definitions.specs.Relation.{IsAt}
-use Rattle.tree_definitions.specs.Joint.{joint_symbols}
-use Rattle.tree_definitions.proofs.Members.{at_unique, at_within, place_of, contains_at}
+use Rattle.tree_definitions.proofs.Members.{at_unique}
 use Rattle.bool_ops.specs.Closing.{both, AreAlike, Together, by_rules}
 use Rattle.bool_ops.specs.Joined.{HasLine, StandFor}
 use Rattle.bool_ops.proofs.Filed.{at_distinct}

@@ -1,16 +1,16 @@
 -- The closing loop: its start, a step and its end.
-use Rattle.std.proofs.Common.{◌≡◌, ◌≢◌, ◌⊎◌, ◌↔◌, inl, inr, ℕ, zero, suc, ◌<◌, ◌+◌, ◌≤◌, List, [], ◌∷◌, ◌++◌, length, get_or, Some, refl, sym, ap, ◌∙◌, subst, arith, ⊎_elim}
-use Rattle.std.specs.Prelude.{All, Contains, AllPairs}
+use Rattle.std.proofs.Common.{◌≡◌, ◌≢◌, ◌⊎◌, inl, inr, ℕ, zero, suc, ◌<◌, ◌+◌, ◌≤◌, List, [], ◌∷◌, length, Some, refl, sym, ap, subst, arith, ⊎_elim}
+use Rattle.std.specs.Prelude.{Contains}
 use Rattle.std.proofs.lemmas.Bool.{cases_eq}
 use Rattle.std.proofs.lemmas.List.Elements.{All-contains}
-use Rattle.std.proofs.lemmas.Option.{slice_get_within, slice_get-get_or}
+use Rattle.std.proofs.lemmas.Option.{slice_get_within}
 use Rattle.tree_definitions.specs.Automaton.{Rule}
 use Rattle.tree_definitions.specs.Product.{Both}
 use Rattle.tree_definitions.specs.Relation.{IsAt}
 use Rattle.tree_definitions.proofs.Members.{at_unique, at_within, place_of, contains_at, contains_none}
 use Rattle.trim_ops.specs.Marking.{AreWithin, IsWithin}
-use Rattle.bool_ops.specs.Closing.{both, AreAlike, Together, by_rules, AreHeld, Fits, Grows, Took, Settled, SettledWith, IsBefore, AreBefore, IsClosing, IsClosed}
-use Rattle.bool_ops.proofs.Closed.{grows_keeps, took_kept}
+use Rattle.bool_ops.specs.Closing.{both, AreAlike, Together, by_rules, AreHeld, Grows, Settled, SettledWith, IsBefore, AreBefore, IsClosing, IsClosed}
+use Rattle.bool_ops.proofs.Closed.{took_kept}
 
 module _ (ours theirs : List Rule) where
   pub together_left : (n : ℕ) → AreWithin n ours → (x : Both) → Together ours theirs x → x.left < n

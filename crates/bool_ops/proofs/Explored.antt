@@ -1,15 +1,14 @@
 -- Steps of the loops that explore a pair, a rule and a list of rules.
-use Rattle.std.proofs.Common.{◌≡◌, ◌≢◌, ◌⊎◌, inl, inr, ℕ, zero, suc, ◌<◌, ◌+◌, ◌≤◌, List, [], ◌∷◌, ◌++◌, length, get_or, refl, sym, ap, ◌∙◌, subst, arith, ⊎_elim}
-use Rattle.std.specs.Prelude.{All, Contains, AllPairs}
+use Rattle.std.proofs.Common.{◌≡◌, ◌≢◌, ◌⊎◌, inl, inr, ℕ, ◌<◌, ◌+◌, List, [], ◌∷◌, length, get_or, refl, sym, ap, ◌∙◌, subst, arith, ⊎_elim}
+use Rattle.std.specs.Prelude.{All, Contains}
 use Rattle.std.proofs.lemmas.Bool.{cases_eq}
 use Rattle.std.proofs.lemmas.List.Elements.{All-nil, Contains-get_or}
-use Rattle.std.proofs.lemmas.Option.{slice_get_within, slice_get-get_or}
+use Rattle.std.proofs.lemmas.Option.{slice_get-get_or}
 use Rattle.tree_definitions.specs.Automaton.{Rule}
 use Rattle.tree_definitions.specs.Product.{Both}
 use Rattle.tree_definitions.specs.Relation.{IsAt}
-use Rattle.tree_definitions.proofs.Members.{at_unique, place_of, contains_at}
-use Rattle.trim_ops.specs.Marking.{IsByChild}
-use Rattle.bool_ops.specs.Closing.{both, AreAlike, Together, AreHeld, Grows, Settled, SettledWith}
+use Rattle.tree_definitions.proofs.Members.{at_unique, place_of}
+use Rattle.bool_ops.specs.Closing.{AreAlike, Grows, Settled, SettledWith}
 use Rattle.bool_ops.specs.Filing.{entries_of, slot_of, HasSlots, IsFiled}
 use Rattle.bool_ops.proofs.Closed.{grows_none, grows_keeps, settled_kept}
 

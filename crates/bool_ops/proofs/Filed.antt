@@ -1,5 +1,5 @@
 -- Slots of rules, and rules in the lists of their slots, one child at a time.
-use Rattle.std.proofs.Common.{◌≡◌, ◌≢◌, ◌⊎◌, inl, inr, ℕ, zero, suc, ◌<◌, ◌+◌, ◌≤◌, true, false, List, [], ◌∷◌, ◌++◌, length, get_or, set, refl, sym, ap, ◌∙◌, subst, arith, ⊎_elim, Some, slice_get}
+use Rattle.std.proofs.Common.{◌≡◌, ◌≢◌, ◌⊎◌, inl, inr, ℕ, zero, suc, ◌<◌, ◌+◌, ◌≤◌, true, false, List, [], ◌∷◌, ◌++◌, length, get_or, set, refl, sym, ap, ◌∙◌, subst, arith, ⊎_elim}
 use Rattle.std.specs.Prelude.{Contains, AllPairs}
 use Rattle.std.specs.List.{list_any}
 use Rattle.std.proofs.lemmas.Bool.{cases_eq, cases_order, cases_Bool, false≢true}
@@ -9,9 +9,9 @@ use Rattle.std.proofs.lemmas.Option.{slice_get_within, slice_get-get_or, get_or_
 use Rattle.tree_definitions.specs.Automaton.{Rule}
 use Rattle.tree_definitions.specs.Product.{Both}
 use Rattle.tree_definitions.specs.Relation.{IsAt}
-use Rattle.tree_definitions.proofs.Members.{at_unique, place_of, contains_at}
+use Rattle.tree_definitions.proofs.Members.{at_unique}
 use Rattle.bool_ops.specs.Closing.{Adds}
-use Rattle.bool_ops.specs.Filing.{entries_of, slot_of, HasSlotsTo, HasSlots, IsFiledTo, IsFiled}
+use Rattle.bool_ops.specs.Filing.{entries_of, slot_of, HasSlotsTo, IsFiledTo}
 use Rattle.bool_ops.proofs.Numbers.{same_pair, any_member, member_any}
 
 -- Lists of pairs, one more at a time.

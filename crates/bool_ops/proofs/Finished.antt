@@ -1,13 +1,12 @@
 -- What the parts of a product say of its states and rules.
-use Rattle.std.proofs.Common.{◌≡◌, ◌≢◌, ◌⊎◌, inl, inr, ℕ, ◌<◌, ◌≤◌, ◌^◌, List, length, get_or, sym, ap, ◌∙◌, subst, arith}
+use Rattle.std.proofs.Common.{◌≢◌, inl, inr, ℕ, ◌<◌, ◌^◌, List, length, get_or, ap, ◌∙◌, arith}
 use Rattle.std.specs.Prelude.{All, Contains, AllPairs, ◌↔◌}
 use Rattle.std.proofs.lemmas.List.Elements.{Contains-get_or}
 use Rattle.std.proofs.lemmas.Option.{slice_get_within}
-use Rattle.tree_definitions.specs.Tree.{Symbol, Tree, Node, Trees}
+use Rattle.tree_definitions.specs.Tree.{Symbol, Tree, Node}
 use Rattle.tree_definitions.specs.Automaton.{Automaton, Rule, HasRule, IsAutomaton, IsState}
 use Rattle.tree_definitions.specs.Language.{ReachesBy}
 use Rattle.tree_definitions.specs.Product.{Both, Precedes}
-use Rattle.tree_definitions.specs.Relation.{IsAt}
 use Rattle.tree_definitions.proofs.Listing.{parent_state}
 use Rattle.tree_definitions.proofs.Members.{at_unique}
 use Rattle.bool_ops.specs.Closing.{IsClosed}

@@ -10,5 +10,6 @@ pub mod Parts
 pub mod Assembled
 pub mod WellFormed
 pub mod Finished
+pub mod Counted
 pub mod Limits
 pub mod CanonicalProduct

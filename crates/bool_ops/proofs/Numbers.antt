@@ -1,5 +1,5 @@
 -- Places of pairs, where the test of equality decides `≡`.
-use Rattle.std.proofs.Common.{◌≡◌, ◌≢◌, ℕ, ◌<◌, ◌≤◌, ◌+◌, Bool, true, false, ◌&&◌, ◌||◌, cond, eqb, eqb-true, eq-eqb, List, [], ◌∷◌, ◌++◌, length, get_or, Some, None, slice_get, Contains, sym, ap, ◌∙◌, subst, arith, refl, ⊎_elim}
+use Rattle.std.proofs.Common.{◌≡◌, ◌≢◌, ℕ, Bool, true, false, ◌&&◌, cond, eqb, eqb-true, eq-eqb, List, [], ◌∷◌, ◌++◌, get_or, Some, None, slice_get, Contains, sym, ap, ◌∙◌, subst, refl, ⊎_elim}
 use Rattle.std.specs.Prelude.{AllPairs, Option, IfSome}
 use Rattle.std.specs.Bool.{Decides}
 use Rattle.std.specs.List.{position, list_any}

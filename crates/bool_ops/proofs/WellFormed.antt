@@ -1,20 +1,20 @@
 -- The parts of a product make a well-formed automaton.
-use Rattle.std.proofs.Common.{◌≡◌, ◌≢◌, ◌⊎◌, ◌↔◌, inl, inr, ℕ, zero, suc, ◌<◌, ◌+◌, ◌≤◌, ◌^◌, List, [], ◌∷◌, ◌++◌, map, filter, length, get_or, Some, codes, refl, sym, ap, ◌∙◌, subst, arith, ⊎_elim, append_assoc}
+use Rattle.std.proofs.Common.{◌≡◌, ◌≢◌, ℕ, ◌<◌, ◌≤◌, ◌^◌, List, [], ◌∷◌, ◌++◌, map, filter, length, get_or, Some, codes, refl, sym, ap, ◌∙◌, subst, arith, append_assoc}
 use Rattle.std.specs.Prelude.{All, Contains, AllPairs, decimal, not}
 use Rattle.std.specs.List.{AllZip, list_any}
 use Rattle.std.specs.Char.{digit_value}
 use Rattle.std.specs.Str.Parse.{AllDigits}
 use Rattle.std.proofs.lemmas.Fmt.{decimal_injective, decimal_is_IsNumeral}
-use Rattle.std.proofs.lemmas.List.{length-map, get_or-map, get_or_default}
+use Rattle.std.proofs.lemmas.List.{length-map, get_or-map}
 use Rattle.std.proofs.lemmas.List.Elements.{All-cons, All-nil, All-head, All-tail, All-append, All-filter, All-contains, All-weaker}
 use Rattle.std.proofs.lemmas.Option.{slice_get_within, slice_get-get_or, get_or_from_slice_get}
 use Rattle.tree_definitions.specs.Tree.{Symbol}
 use Rattle.tree_definitions.specs.Automaton.{Automaton, Rule, IsAutomaton, FitsRule, IsState, HasRule}
 use Rattle.tree_definitions.specs.Name.{IsName}
-use Rattle.tree_definitions.specs.Product.{Both, Precedes, pair_name}
-use Rattle.tree_definitions.specs.Relation.{Row, Has, IsAt}
+use Rattle.tree_definitions.specs.Product.{Both, pair_name}
+use Rattle.tree_definitions.specs.Relation.{Row, IsAt}
 use Rattle.tree_definitions.specs.Joint.{joint_symbols, same_symbol}
-use Rattle.tree_definitions.proofs.Members.{at_unique, at_within, place_of, contains_at}
+use Rattle.tree_definitions.proofs.Members.{at_unique, contains_at}
 use Rattle.ta_model.specs.Listing.{IsListed}
 use Rattle.bool_ops.specs.Closing.{both, AreAlike, IsClosed}
 use Rattle.bool_ops.specs.Joined.{StandFor, IsPairOf, AreFinals, pairs_of, renumbered}

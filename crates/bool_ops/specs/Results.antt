@@ -1,11 +1,10 @@
 -- The canonical forms of a union and of a product.
-use Rattle.std.specs.Prelude.{◌≡◌, ◌≢◌, ℕ, ◌<◌, List, length, AllPairs, Contains}
+use Rattle.std.specs.Prelude.{◌≡◌, ◌≢◌, ℕ, ◌<◌, List, map, length, AllPairs, Contains}
 use Rattle.tree_definitions.specs.Tree.{Symbol}
-use Rattle.tree_definitions.specs.Automaton.{Automaton, IsRule}
+use Rattle.tree_definitions.specs.Automaton.{Automaton, HasRule}
 use Rattle.tree_definitions.specs.Canonical.{canon}
 use Rattle.tree_definitions.specs.Union.{IsUnion}
 use Rattle.tree_definitions.specs.Product.{Both, AreReachedTogether, IsProduct}
-use Rattle.tree_definitions.specs.Relation.{IsAt}
 
 -- C is the canonical form of the union of A and B
 abbrev pub IsCanonicalUnion : Automaton → Automaton → Automaton → Type 0
@@ -19,17 +18,18 @@ IsCanonicalProduct A B C = (P : Automaton) × IsProduct A B P × (C ≡ canon P)
 abbrev pub HasMoreStates : Automaton → Automaton → ℕ → Type 0
 HasMoreStates A B n = (pairs : List Both) × AllPairs ◌≢◌ pairs × ((x : Both) → Contains pairs x → AreReachedTogether A B x) × (n < length pairs)
 
--- the rules at these places of A and B have one symbol, and their children are pair by pair reached together
-pub record IsProductRule (A B : Automaton) (x : Both) : Type 0 where
+-- a rule over pairs of states: a symbol, the pairs of its children and the pair of its parent
+pub record PairRule : Type 0 where
   pub symbol : Symbol
-  pub lefts : List ℕ
-  pub left : ℕ
-  pub rights : List ℕ
-  pub right : ℕ
-  pub left_rule : IsRule A x.left symbol lefts left
-  pub right_rule : IsRule B x.right symbol rights right
-  pub together : (i p q : ℕ) → IsAt lefts i p → IsAt rights i q → AreReachedTogether A B (record { left = p; right = q })
+  pub kids : List Both
+  pub parent : Both
 
--- the product has more than n rules: there are more than n such pairs of rules
+-- A has the rule of the left places and B that of the right ones, and its children are reached together
+pub record IsProductRule (A B : Automaton) (rule : PairRule) : Type 0 where
+  pub left : HasRule A rule.symbol (map (λ x. x.left) rule.kids) rule.parent.left
+  pub right : HasRule B rule.symbol (map (λ x. x.right) rule.kids) rule.parent.right
+  pub together : (x : Both) → Contains rule.kids x → AreReachedTogether A B x
+
+-- the product has more than n rules
 abbrev pub HasMoreRules : Automaton → Automaton → ℕ → Type 0
-HasMoreRules A B n = (rules : List Both) × AllPairs ◌≢◌ rules × ((x : Both) → Contains rules x → IsProductRule A B x) × (n < length rules)
+HasMoreRules A B n = (rules : List PairRule) × AllPairs ◌≢◌ rules × ((rule : PairRule) → Contains rules rule → IsProductRule A B rule) × (n < length rules)

@@ -1,8 +1,7 @@
 //! The product of two automata, however they are kept.
 
-ghost use Rattle.std.specs.Prelude.{◌≡◌, ◌≢◌, ◌≤◌, ◌↔◌, IfOk, IsErrOf, AllPairs, length};
+ghost use Rattle.std.specs.Prelude.{◌≡◌, ◌≢◌, ◌≤◌, ◌↔◌, IfOk, OnOk, IsErrOf, AllPairs, length};
 ghost use Rattle.tree_definitions.specs.Automaton.{HasRule};
-ghost use Rattle.tree_definitions.specs.Canonical.{canon};
 ghost use Rattle.tree_definitions.specs.Joint.{joint_symbols};
 ghost use Rattle.tree_definitions.specs.Language.{Accepts};
 ghost use Rattle.tree_definitions.specs.Tree.{Tree};
@@ -43,6 +42,8 @@ fn assemble(
     requires few { length found.now ≤ 2000000 }
     ensures product { IfOk result (λ p. IsCanonicalProduct left.now right.now p) }
     ensures listed { IfOk result IsListed }
+    ensures few_states { IfOk result (λ p. length p.states ≤ 1000000) }
+    ensures few_rules { IfOk result (λ p. length p.rules ≤ 2000000) }
     ensures states { IsErrOf result OpError.TooManyStates → ⊥ }
     ensures rules { IsErrOf result OpError.TooManyRules → ⊥ }
 {
@@ -71,8 +72,13 @@ fn product_of(alloc: Global, left: &Listed, right: &Listed) -> Result<Listed, Op
     requires few_symbols { length (joint_symbols left.now.symbols right.now.symbols) ≤ 65535 }
     ensures product { IfOk result (λ p. IsCanonicalProduct left.now right.now p) }
     ensures listed { IfOk result IsListed }
+    ensures few_states { IfOk result (λ p. length p.states ≤ 1000000) }
+    ensures few_rules { IfOk result (λ p. length p.rules ≤ 2000000) }
     ensures states { IsErrOf result OpError.TooManyStates → HasMoreStates left.now right.now 1000000 }
     ensures rules { IsErrOf result OpError.TooManyRules → HasMoreRules left.now right.now 2000000 }
+    ensures states_first { IsErrOf result OpError.TooManyRules → ¬ HasMoreStates left.now right.now 1000000 }
+    ensures fewer_states { OnOk result (¬ HasMoreStates left.now right.now 1000000) }
+    ensures fewer_rules { OnOk result (¬ HasMoreRules left.now right.now 2000000) }
 {
     let Ok((alphabet, numbers)) = joined_symbols(alloc, left, right) else {
         return Err(OpError::Memory);
@@ -100,13 +106,19 @@ fn product_of(alloc: Global, left: &Listed, right: &Listed) -> Result<Listed, Op
 }
 
 /// The product of both automata in canonical form, named `isect`. Its states are the pairs of places
-/// I and J that one tree reaches together, named `pI_J`, in order of I and then J.
+/// I and J that one tree reaches together, named `pI_J`, in order of I and then J. It has
+/// at most 1,000,000 states and 2,000,000 rules.
 pub fn isect<J: Joint>(alloc: Global, j: &J) -> Result<Listed, OpError>
     ensures automaton { IfOk result (λ p. IsCanonicalProduct (J.left j.now) (J.right j.now) p) }
     ensures language { IfOk result (λ p. (t : Tree) → Accepts p t ↔ (Accepts (J.left j.now) t × Accepts (J.right j.now) t)) }
     ensures listed { IfOk result IsListed }
+    ensures few_states { IfOk result (λ p. length p.states ≤ 1000000) }
+    ensures few_rules { IfOk result (λ p. length p.rules ≤ 2000000) }
     ensures states { IsErrOf result OpError.TooManyStates → HasMoreStates (J.left j.now) (J.right j.now) 1000000 }
-    ensures rules { IsErrOf result OpError.TooManyRules → HasMoreRules (canon (J.left j.now)) (canon (J.right j.now)) 2000000 }
+    ensures rules { IsErrOf result OpError.TooManyRules → HasMoreRules (J.left j.now) (J.right j.now) 2000000 }
+    ensures states_first { IsErrOf result OpError.TooManyRules → ¬ HasMoreStates (J.left j.now) (J.right j.now) 1000000 }
+    ensures fewer_states { OnOk result (¬ HasMoreStates (J.left j.now) (J.right j.now) 1000000) }
+    ensures fewer_rules { OnOk result (¬ HasMoreRules (J.left j.now) (J.right j.now) 2000000) }
 {
     let _symbols = j.symbols();
     let (left, right) = j.listed()?;

@@ -1,9 +1,9 @@
 -- The rules of an automaton by parent and by children.
-use Rattle.std.proofs.Common.{◌≡◌, ◌↔◌, ◌⊎◌, inl, inr, ℕ, zero, suc, ◌+◌, ◌<◌, ◌≤◌, List, [], ◌∷◌, ◌++◌, Bool, length, get_or, take, Some, None, refl, sym, ap, subst, ◌∙◌, arith, ⊎_elim}
+use Rattle.std.proofs.Common.{◌≡◌, ◌↔◌, ◌⊎◌, inl, inr, ℕ, zero, suc, ◌+◌, ◌<◌, ◌≤◌, List, [], ◌∷◌, ◌++◌, Bool, length, get_or, map, take, Some, None, refl, sym, ap, subst, ◌∙◌, arith, ⊎_elim}
 use Rattle.std.specs.Prelude.{All, Contains, slice_get}
-use Rattle.std.proofs.lemmas.List.{take_more, take_all}
+use Rattle.std.proofs.lemmas.List.{take_more, take_all, length-map, get_or-map}
 use Rattle.std.proofs.lemmas.List.Elements.{Contains-push, Contains-push_cases, Contains-append_left, Contains-append_right, Contains-append_cases, All-contains, Contains-get_or}
-use Rattle.std.specs.List.Sorted.{IsPermutation}
+use Rattle.std.specs.List.Sorted.{IsPermutation, IsNonDecreasingBy}
 use Rattle.std.proofs.lemmas.List.Sorted.{Contains-permutation, IsPermutation-sym}
 use Rattle.tree_definitions.specs.Automaton.{Rule}
 use Rattle.tree_definitions.specs.Relation.{Has}
@@ -16,8 +16,8 @@ use Rattle.shared_clusters.specs.Clusters.{Group, HasRule as Keeps, IsEmpty, Gai
 use Rattle.shared_clusters.proofs.Gaps.{at_range, at_get_or}
 use Rattle.shared_clusters.proofs.Rules.{same_rule}
 use Rattle.ta_model.specs.declared.table.UpClass.{UpClass}
-use Rattle.explicit_ta.specs.Index.{AreRulesOf, IsClassAt, AreClassesAt, AreLeads, AreParentsUnder, IsUpClassAt, AreUpClassesAt, AddsClass, From, AreUses, ListsUses, GainsUses}
-use Rattle.explicit_ta.proofs.Lists.{more_in, more_out, all_of}
+use Rattle.explicit_ta.specs.Index.{AreRulesOf, IsClassAt, AreClassesAt, AreLeads, AreParentsUnder, IsUpClassAt, AreUpClassesAt, AddsClass, From, AreUses, ListsUses, GainsUses, HaveSameRules}
+use Rattle.explicit_ta.proofs.Lists.{more_in, more_out, all_of, image_in, image_out}
 
 -- ---- a table of rules, one rule more
 
@@ -92,37 +92,36 @@ under_more t q symbols i a before tuples lt is of h kids = (
       (more_out symbols i a w.0 lt is w.1),
 )
 
--- ---- the rules with these children, one rule more
+-- ---- the rules with these children
 
-pub leads_here : (rules : List Rule) (i : ℕ) (rule : Rule) (kids : List ℕ) (pairs : List (ℕ × ℕ)) → i < length rules → rule ≡ get_or rules i rule → rule.kids ≡ kids
-    → AreLeads (take i rules) kids pairs → AreLeads (take (i + 1) rules) kids (pairs ++ (rule.symbol, rule.parent) ∷ [])
-leads_here rules i rule kids pairs lt is same h a p = (
-  λ m. ⊎_elim
-      (λ k. more_in rules i rule line lt is (inl ((h a p).0 k)))
-      (λ (e : ◌≡◌ {A = ℕ × ℕ} (rule.symbol, rule.parent) (a, p)). more_in rules i rule line lt is (inr (shape e)))
-      (Contains-push_cases pairs (rule.symbol, rule.parent) (a, p) m),
-  λ m. ⊎_elim
-      (λ k. Contains-append_left pairs ((rule.symbol, rule.parent) ∷ []) (a, p) ((h a p).1 k))
-      (λ (e : rule ≡ line). subst (Contains (pairs ++ (rule.symbol, rule.parent) ∷ [])) (ap pair_of e) (Contains-push pairs (rule.symbol, rule.parent)))
-      (more_out rules i rule line lt is m),
+abbrev pub lead_of : Rule → ℕ × ℕ
+lead_of r = (r.symbol, r.parent)
+
+pub leads_are : (rules here : List Rule) (kids : List ℕ) → ((r : Rule) → Contains here r ↔ (Contains rules r × (r.kids ≡ kids))) → AreLeads rules kids (map lead_of here)
+leads_are rules here kids same a p = (
+  λ m.
+      let r = image_out lead_of here (a, p) m in
+      let h = (same r.0).0 r.1 in
+      let is : r.0 ≡ record { symbol = a; kids = kids; parent = p } =
+      same_rule r.0 (record { symbol = a; kids = kids; parent = p }) (ap (λ (w : ℕ × ℕ). w.1) r.2) (ap (λ (w : ℕ × ℕ). w.0) r.2) h.1 in
+      subst (Contains rules) is h.0,
+  λ m. image_in lead_of here (record { symbol = a; kids = kids; parent = p }) ((same (record { symbol = a; kids = kids; parent = p })).1 (m, refl)),
 )
-  where
-    pair_of : Rule → ℕ × ℕ
-    pair_of r = (r.symbol, r.parent)
 
-    line : Rule
-    line = record { symbol = a; kids = kids; parent = p }
+pub leads_rise : (here : List Rule) → IsNonDecreasingBy (λ r. r.symbol) here → IsNonDecreasingBy (λ x. x.0) (map lead_of here)
+leads_rise here up i j d le lt =
+    let long = length-map here lead_of in
+    let r : Rule = record { symbol = d.0; kids = []; parent = d.1 } in
+    let m : j < length here = omega (arith, lt, long) in
+    let a = ap (λ (w : ℕ × ℕ). w.0) (get_or-map lead_of here i r d (omega (arith, le, m))) in
+    let b = ap (λ (w : ℕ × ℕ). w.0) (get_or-map lead_of here j r d m) in
+    let h : (get_or here i r).symbol ≤ (get_or here j r).symbol = up i j r le m in
+    omega (arith, a, b, h)
 
-    shape : ◌≡◌ {A = ℕ × ℕ} (rule.symbol, rule.parent) (a, p) → rule ≡ record { symbol = a; kids = kids; parent = p }
-    shape e = same_rule rule (record { symbol = a; kids = kids; parent = p }) (ap (λ w. w.1) e) (ap (λ w. w.0) e) same
-
-pub leads_away : (rules : List Rule) (i : ℕ) (rule : Rule) (kids : List ℕ) (pairs : List (ℕ × ℕ)) → i < length rules → rule ≡ get_or rules i rule → (rule.kids ≡ kids → ⊥)
-    → AreLeads (take i rules) kids pairs → AreLeads (take (i + 1) rules) kids pairs
-leads_away rules i rule kids pairs lt is away h a p =
-    let line : Rule = record { symbol = a; kids = kids; parent = p } in (
-      λ m. more_in rules i rule line lt is (inl ((h a p).0 m)),
-      λ m. ⊎_elim (λ k. (h a p).1 k) (λ (e : rule ≡ line). absurd (away (ap (λ r. r.kids) e))) (more_out rules i rule line lt is m),
-    )
+pub leads_moved : (xs ys : List Rule) (kids : List ℕ) (pairs : List (ℕ × ℕ)) → HaveSameRules xs ys → AreLeads xs kids pairs → AreLeads ys kids pairs
+leads_moved xs ys kids pairs same h a p =
+    let rule : Rule = record { symbol = a; kids = kids; parent = p } in
+    (λ m. (same rule).0 ((h a p).0 m), λ m. (h a p).1 ((same rule).1 m))
 
 -- ---- the rules in which a state stands, one rule more
 

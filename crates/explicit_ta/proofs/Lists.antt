@@ -131,42 +131,42 @@ distinct_kids xs sorted out moved rising filtered = record { distinct = apart; m
 abbrev pub key_of : ℕ × ℕ → ℕ
 key_of x = x.0
 
--- the part between the pairs with lower keys and those with higher ones
-pub under_pairs : (xs : List (ℕ × ℕ)) (s from to : ℕ) → from ≤ length xs → IsPartitionPoint (λ y. ltb (key_of y) s ≡ true) (λ y. ltb (key_of y) s ≡ false) xs from
-    → to ≤ length (drop from xs) → IsPartitionPoint (λ y. leb (key_of y) s ≡ true) (λ y. leb (key_of y) s ≡ false) (drop from xs) to
-    → (a p : ℕ) → Contains (take to (drop from xs)) (a, p) ↔ (Contains xs (a, p) × (a ≡ s))
-under_pairs xs s from to low cut within end a p = (there, back)
+-- the part between the elements with lower keys and those with higher ones
+pub under_key : {X : Type 0} (key : X → ℕ) (xs : List X) (s from to : ℕ) → from ≤ length xs → IsPartitionPoint (λ y. ltb (key y) s ≡ true) (λ y. ltb (key y) s ≡ false) xs from
+    → to ≤ length (drop from xs) → IsPartitionPoint (λ y. leb (key y) s ≡ true) (λ y. leb (key y) s ≡ false) (drop from xs) to
+    → (x : X) → Contains (take to (drop from xs)) x ↔ (Contains xs x × (key x ≡ s))
+under_key key xs s from to low cut within end x = (there, back)
   where
     long : length (drop from xs) ≡ length xs - from
     long = length-drop from xs
 
-    there : Contains (take to (drop from xs)) (a, p) → Contains xs (a, p) × (a ≡ s)
+    there : Contains (take to (drop from xs)) x → Contains xs x × (key x ≡ s)
     there m =
         let short : length (take to (drop from xs)) ≡ to = length-take-le to (drop from xs) within in
         let lt : m.0 < to = omega (arith, m.1) in
-        let here : get_or (drop from xs) m.0 (a, p) ≡ (a, p) = sym (get_or-take to (drop from xs) m.0 (a, p) lt) ∙ m.2 in
-        let place : get_or xs (from + m.0) (a, p) ≡ (a, p) = sym (get_or-drop from xs m.0 (a, p)) ∙ here in
-        let most : a ≤ s = leb-true a s (subst (λ y. leb (key_of y) s ≡ true) here (end.0 m.0 (a, p) (omega arith) lt)) in
-        let least : s ≤ a = ltb-false a s (subst (λ y. ltb (key_of y) s ≡ false) place (cut.1 (from + m.0) (a, p) (omega arith) (omega (arith, long)))) in
+        let here : get_or (drop from xs) m.0 x ≡ x = sym (get_or-take to (drop from xs) m.0 x lt) ∙ m.2 in
+        let place : get_or xs (from + m.0) x ≡ x = sym (get_or-drop from xs m.0 x) ∙ here in
+        let most : key x ≤ s = leb-true (key x) s (subst (λ y. leb (key y) s ≡ true) here (end.0 m.0 x (omega arith) lt)) in
+        let least : s ≤ key x = ltb-false (key x) s (subst (λ y. ltb (key y) s ≡ false) place (cut.1 (from + m.0) x (omega arith) (omega (arith, long)))) in
         ((from + m.0, omega (arith, long), place), omega arith)
 
-    back : Contains xs (a, p) × (a ≡ s) → Contains (take to (drop from xs)) (a, p)
+    back : Contains xs x × (key x ≡ s) → Contains (take to (drop from xs)) x
     back h =
         let m = h.0 in
-        let e : a ≡ s = h.1 in
+        let e : key x ≡ s = h.1 in
         let late : from ≤ m.0 = ⊎_elim
-        (λ (lt : m.0 < from). let below : a < s = ltb-true a s (subst (λ y. ltb (key_of y) s ≡ true) m.2 (cut.0 m.0 (a, p) (omega arith) lt)) in absurd (omega arith))
+        (λ (lt : m.0 < from). let below : key x < s = ltb-true (key x) s (subst (λ y. ltb (key y) s ≡ true) m.2 (cut.0 m.0 x (omega arith) lt)) in absurd (omega arith))
         (λ (ge : from ≤ m.0). ge) (cases_lt m.0 from) in
         let k : ℕ = m.0 - from in
         let sum : from + k ≡ m.0 = omega arith in
         let in_range : m.0 < length xs = m.1 in
-        let here : get_or (drop from xs) k (a, p) ≡ (a, p) = get_or-drop from xs k (a, p) ∙ ap (λ i. get_or xs i (a, p)) sum ∙ m.2 in
+        let here : get_or (drop from xs) k x ≡ x = get_or-drop from xs k x ∙ ap (λ i. get_or xs i x) sum ∙ m.2 in
         let early : k < to = ⊎_elim
         (λ (lt : k < to). lt)
-        (λ (ge : to ≤ k). let above : s < a = leb-false a s (subst (λ y. leb (key_of y) s ≡ false) here (end.1 k (a, p) ge (omega (arith, long)))) in absurd (omega arith))
+        (λ (ge : to ≤ k). let above : s < key x = leb-false (key x) s (subst (λ y. leb (key y) s ≡ false) here (end.1 k x ge (omega (arith, long)))) in absurd (omega arith))
         (cases_lt k to) in
         let short : length (take to (drop from xs)) ≡ to = length-take-le to (drop from xs) within in
-        (k, omega arith, get_or-take to (drop from xs) k (a, p) early ∙ here)
+        (k, omega arith, get_or-take to (drop from xs) k x early ∙ here)
 
 -- two facts of the value of a result
 pub if_ok_both : {X E : Type 0} (r : Result X E) (P Q : X → Type 0) → IfOk r P → IfOk r Q → IfOk r (λ x. P x × Q x)

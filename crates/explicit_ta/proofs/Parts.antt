@@ -13,7 +13,8 @@ use Rattle.tree_definitions.specs.Tree.{Symbol}
 use Rattle.tree_definitions.specs.Automaton.{Automaton, Rule, HasRule, IsState, IsAutomaton, FitsRule}
 use Rattle.tree_definitions.specs.Name.{IsName}
 use Rattle.tree_definitions.specs.Relation.{Row, Has, IsAt}
-use Rattle.tree_definitions.proofs.Members.{contains_none, contains_head, contains_tail, contains_cases, contains_at, place_of, at_unique}
+use Rattle.tree_definitions.proofs.Counting.{count_keys}
+use Rattle.tree_definitions.proofs.Members.{contains_none, contains_head, contains_tail, contains_cases, contains_at, place_of, at_unique, at_within}
 use Rattle.ta_model.specs.Listing.{IsListed}
 use Rattle.ta_model.specs.Restriction.{RestrictsTo}
 use Rattle.shared_clusters.proofs.Gaps.{at_range, at_get_or, pairs_head, pairs_tail}
@@ -64,6 +65,12 @@ zip_at R [] (z ∷ ys) i y h e = absurd h
 zip_at R (x ∷ xs) [] i y h e = absurd h
 zip_at R (x ∷ xs) (z ∷ ys) zero y h e = let same : z ≡ y = cc in (x, refl, subst (R x) same h.0)
 zip_at R (x ∷ xs) (z ∷ ys) (suc i) y h e = zip_at R xs ys i y h.1 e
+
+-- distinct elements are no more than a list that has them all
+pub no_more : {X : Type 0} (xs ys : List X) → AllPairs ◌≢◌ xs → ((x : X) → Contains xs x → Contains ys x) → length xs ≤ length ys
+no_more xs ys apart all = count_keys (λ i y. IsAt xs i y) xs ys
+    (λ i lt. let at = at_within xs i lt in (at.0, all at.0 (contains_at xs i at.0 at.1), at.1))
+    (λ i j y lt within at_i at_j. let same : i ≡ j = one_place_of xs apart i j y at_i at_j in omega (arith, lt, same))
 
 pub all_from : {X : Type 0} (P : X → Type 0) (xs : List X) → ((x : X) → Contains xs x → P x) → All P xs
 all_from P xs h k d lt = h (get_or xs k d) (Contains-get_or xs k d lt)
@@ -183,16 +190,25 @@ same_lists A B n s q f r =
     let by_rules : List Rule → Automaton = λ v. record { name = B.name; symbols = B.symbols; states = B.states; finals = B.finals; rules = v } in
     ap by_name n ∙ ap by_symbols s ∙ ap by_states q ∙ ap by_finals f ∙ ap by_rules r
 
-abbrev pub part_with : Automaton → Row → List ℕ → List (List ℕ) → Automaton
-part_with A row numbers names = record {
+-- A with these rules of it, as far as they are between kept states, and with these names and numbers for the kept states
+abbrev pub part_with : Automaton → List Rule → Row → List ℕ → List (List ℕ) → Automaton
+part_with A left row numbers names = record {
   name = A.name;
   symbols = A.symbols;
   states = names;
   finals = map (slice_index numbers) (filter (is_in row) A.finals);
-  rules = map (λ r. renamed numbers r.symbol r) (filter (is_between row) A.rules);
+  rules = map (λ r. renamed numbers r.symbol r) (filter (is_between row) left);
 }
 
-module _ (A : Automaton) (listed : IsListed A) (row : Row) (kept numbers : List ℕ) (names : List (List ℕ)) (wide : length row ≡ length A.states)
+-- rules of A have places of states
+pub left_kids : (A : Automaton) → IsAutomaton A → (left : List Rule) → ((r : Rule) → Contains left r → Contains A.rules r) → All (λ r. All (λ q. q < length A.states) r.kids) left
+left_kids A fits left of = all_from (λ r. All (λ q. q < length A.states) r.kids) left (λ r m. (All-contains (FitsRule A) A.rules r fits.fitting (of r m)).kids)
+
+pub left_parents : (A : Automaton) → IsAutomaton A → (left : List Rule) → ((r : Rule) → Contains left r → Contains A.rules r) → All (λ r. r.parent < length A.states) left
+left_parents A fits left of = all_from (λ r. r.parent < length A.states) left (λ r m. (All-contains (FitsRule A) A.rules r fits.fitting (of r m)).parent)
+
+module _ (A : Automaton) (listed : IsListed A) (left : List Rule) (row : Row) (kept numbers : List ℕ) (names : List (List ℕ)) (apart : AllPairs ◌≢◌ left)
+    (is_left : (r : Rule) → Contains left r ↔ (Contains A.rules r × Has row r.parent)) (wide : length row ≡ length A.states)
     (nb : IsNumbering row kept numbers (length A.states)) (named : AllZip (IsAt A.states) kept names) where
   abbrev g : Rule → Rule
   g r = renamed numbers r.symbol r
@@ -279,7 +295,7 @@ module _ (A : Automaton) (listed : IsListed A) (row : Row) (kept numbers : List 
       let places_same : i ≡ j = one_place_of kept kept_apart i j first.0 first.1 (subst (IsAt kept j) (sym states_same) second.1) in
       omega arith
 
-  part_fits : (r : Rule) → Contains A.rules r → is_between row r ≡ true → FitsRule (part_with A row numbers names) (g r)
+  part_fits : (r : Rule) → Contains A.rules r → is_between row r ≡ true → FitsRule (part_with A left row numbers names) (g r)
   part_fits r m e =
       let old = (fits_rule r m).symbol in
       record {
@@ -290,21 +306,21 @@ module _ (A : Automaton) (listed : IsListed A) (row : Row) (kept numbers : List 
         parent = number_within r.parent (kept_parent r m e);
       }
 
-  pub part_automaton : IsAutomaton (part_with A row numbers names)
+  pub part_automaton : IsAutomaton (part_with A left row numbers names)
   part_automaton = record {
     symbols = listed.automaton.symbols;
     states = names_apart;
     finals = apart_image (slice_index numbers) (is_in row) A.finals listed.automaton.finals (λ q r m n e d same. numbers_tell q r (kept_final q m e) (kept_final r n d) same);
-    rules = apart_image g (is_between row) A.rules listed.automaton.rules rules_tell;
+    rules = apart_image g (is_between row) left apart (λ r s m n. rules_tell r s ((is_left r).0 m).0 ((is_left s).0 n).0);
     final_states = all_from (λ i. i < length names) (map (slice_index numbers) (filter (is_in row) A.finals)) (λ i n.
         let o = image_filter_out (slice_index numbers) (is_in row) A.finals i n in
         subst (λ k. k < length names) o.3 (number_within o.0 (kept_final o.0 o.1 o.2)));
-    fitting = all_from (FitsRule (part_with A row numbers names)) (map g (filter (is_between row) A.rules)) (λ s n.
-        let o = image_filter_out g (is_between row) A.rules s n in
-        subst (FitsRule (part_with A row numbers names)) o.3 (part_fits o.0 o.1 o.2));
+    fitting = all_from (FitsRule (part_with A left row numbers names)) (map g (filter (is_between row) left)) (λ s n.
+        let o = image_filter_out g (is_between row) left s n in
+        subst (FitsRule (part_with A left row numbers names)) o.3 (part_fits o.0 ((is_left o.0).0 o.1).0 o.2));
   }
 
-  pub part_listed : IsListed (part_with A row numbers names)
+  pub part_listed : IsListed (part_with A left row numbers names)
   part_listed = record {
     automaton = part_automaton;
     name = listed.name;
@@ -315,45 +331,51 @@ module _ (A : Automaton) (listed : IsListed A) (row : Row) (kept numbers : List 
         All-contains IsName A.states y listed.state_names (contains_at A.states o.0 y o.2));
     few_symbols = listed.few_symbols;
     few_states = let long = zip_length (IsAt A.states) kept names named in let few : length kept ≤ length A.states = nb.few in let old = listed.few_states in omega arith;
-    few_rules = let short : length (map g (filter (is_between row) A.rules)) ≤ length A.rules = shorter g (is_between row) A.rules in let old : length A.rules < 4294967295 = listed.few_rules in omega (arith, short);
+    few_rules =
+        let short : length (map g (filter (is_between row) left)) ≤ length left = shorter g (is_between row) left in
+        let old : length A.rules < 4294967295 = listed.few_rules in
+        let most : length left ≤ length A.rules = no_more left A.rules apart (λ r m. ((is_left r).0 m).0) in
+        omega (arith, short, most);
   }
 
-  part_rules : (a : Symbol) (kids : List ℕ) (i : ℕ) → HasRule (part_with A row numbers names) a kids i
+  part_rules : (a : Symbol) (kids : List ℕ) (i : ℕ) → HasRule (part_with A left row numbers names) a kids i
       ↔ ((qs : List ℕ) × (q : ℕ) × AllZip (IsAt kept) kids qs × IsAt kept i q × HasRule A a qs q)
   part_rules a kids i = (there, back)
     where
-      part_ties : Ties A.symbols (HasRule (part_with A row numbers names)) (map g (filter (is_between row) A.rules))
-      part_ties = automaton_ties (part_with A row numbers names) part_automaton
+      part_ties : Ties A.symbols (HasRule (part_with A left row numbers names)) (map g (filter (is_between row) left))
+      part_ties = automaton_ties (part_with A left row numbers names) part_automaton
 
       ties : Ties A.symbols (HasRule A) A.rules
       ties = automaton_ties A listed.automaton
 
-      there : HasRule (part_with A row numbers names) a kids i → (qs : List ℕ) × (q : ℕ) × AllZip (IsAt kept) kids qs × IsAt kept i q × HasRule A a qs q
+      there : HasRule (part_with A left row numbers names) a kids i → (qs : List ℕ) × (q : ℕ) × AllZip (IsAt kept) kids qs × IsAt kept i q × HasRule A a qs q
       there h =
           let o = part_ties.out a kids i h in
-          let r = image_filter_out g (is_between row) A.rules (record { symbol = o.0; kids = kids; parent = i }) o.2 in
+          let r = image_filter_out g (is_between row) left (record { symbol = o.0; kids = kids; parent = i }) o.2 in
           let old = r.0 in
+          let had : Contains A.rules old = ((is_left old).0 r.1).0 in
           let symbol : old.symbol ≡ o.0 = ap (λ v. v.symbol) r.3 in
-          let all = kept_kids old r.1 r.2 in (
+          let all = kept_kids old had r.2 in (
             old.kids,
             old.parent,
             subst (λ l. AllZip (IsAt kept) l old.kids) (ap (λ v. v.kids) r.3) (zip_kids old.kids all),
-            subst (λ k. IsAt kept k old.parent) (ap (λ v. v.parent) r.3) (stands old.parent (kept_parent old r.1 r.2)),
-            ties.within old.symbol a old.kids old.parent (subst (λ k. IsAt A.symbols k a) (sym symbol) o.1) r.1,
+            subst (λ k. IsAt kept k old.parent) (ap (λ v. v.parent) r.3) (stands old.parent (kept_parent old had r.2)),
+            ties.within old.symbol a old.kids old.parent (subst (λ k. IsAt A.symbols k a) (sym symbol) o.1) had,
           )
 
-      back : (qs : List ℕ) × (q : ℕ) × AllZip (IsAt kept) kids qs × IsAt kept i q × HasRule A a qs q → HasRule (part_with A row numbers names) a kids i
+      back : (qs : List ℕ) × (q : ℕ) × AllZip (IsAt kept) kids qs × IsAt kept i q × HasRule A a qs q → HasRule (part_with A left row numbers names) a kids i
       back h =
           let o = ties.out a h.0 h.1 h.4 in
           let old : Rule = record { symbol = o.0; kids = h.0; parent = h.1 } in
           let are = kids_are kids h.0 h.2 in
-          let parent_in : is_in row h.1 ≡ true = has_in row h.1 (kept_is h.1 (contains_at kept i h.1 h.3)).1 in
+          let parent_has : Has row h.1 = (kept_is h.1 (contains_at kept i h.1 h.3)).1 in
+          let parent_in : is_in row h.1 ≡ true = has_in row h.1 parent_has in
           let between : is_between row old ≡ true = ap (λ b. b && list_all (is_in row) h.0) parent_in ∙ are.1 in
           let line : Rule = record { symbol = o.0; kids = kids; parent = i } in
           let same : g old ≡ line = same_rule (g old) line (sym (number_is i h.1 h.3)) refl (sym are.0) in
-          part_ties.within o.0 a kids i o.1 (subst (Contains (map g (filter (is_between row) A.rules))) same (image_in g (filter (is_between row) A.rules) old (filter_in (is_between row) A.rules old o.2 between)))
+          part_ties.within o.0 a kids i o.1 (subst (Contains (map g (filter (is_between row) left))) same (image_in g (filter (is_between row) left) old (filter_in (is_between row) left old ((is_left old).1 (o.2, parent_has)) between)))
 
-  pub part_restricts : RestrictsTo A (part_with A row numbers names) row kept
+  pub part_restricts : RestrictsTo A (part_with A left row numbers names) row kept
   part_restricts = record {
     name = refl;
     symbols = refl;

@@ -1,5 +1,8 @@
 -- The rules of an automaton by parent, and what is answered from them.
-use Rattle.std.specs.Prelude.{◌≡◌, ◌↔◌, ◌⊎◌, ℕ, List, Bool, length, Contains}
+use Rattle.std.specs.Prelude.{◌≡◌, ◌≢◌, ◌↔◌, ◌⊎◌, ℕ, List, Bool, length, AllPairs, Contains}
+use Rattle.std.specs.Ordering.{nat_cmp, ordering_then}
+use Rattle.std.specs.Cmp.Lexicographic.{slice_cmp}
+use Rattle.std.specs.declared.cmp.Ordering.{Ordering}
 use Rattle.tree_definitions.specs.Automaton.{Automaton, Rule, IsFinal}
 use Rattle.tree_definitions.specs.Relation.{Has}
 use Rattle.ta_model.specs.declared.table.Class.{Class}
@@ -10,6 +13,11 @@ use Rattle.shared_clusters.specs.Clusters.{Group, HasRule as Keeps, AreTuplesOf}
 pub record AreRulesOf (clusters : List (List Group)) (parents : ℕ) (rules : List Rule) : Type 0 where
   pub parents_of : length clusters ≡ parents
   pub same : (rule : Rule) → Keeps clusters rule ↔ Contains rules rule
+
+-- the list has each rule of this kind that the table has, once, and no others
+pub record ListsThese (clusters : List (List Group)) (kind : Rule → Type 0) (rules : List Rule) : Type 0 where
+  pub distinct : AllPairs ◌≢◌ rules
+  pub members : (rule : Rule) → Contains rules rule ↔ (Keeps clusters rule × kind rule)
 
 -- the class has all child tuples of q and of r under a symbol of q
 pub record IsClassAt (clusters : List (List Group)) (q r : ℕ) (class : Class) : Type 0 where
@@ -40,6 +48,14 @@ abbrev pub GainsUses : List Rule → List Rule → List ℕ → List ℕ → Typ
 GainsUses old new kids states =
     (line : Rule) → Contains new line ↔ (Contains old line ⊎ ((line.symbol ≡ 0) × (line.kids ≡ kids) × Contains states line.parent))
 
+-- rules by their children, then by their symbols
+abbrev pub children_cmp : Rule → Rule → Ordering
+children_cmp r s = ordering_then (slice_cmp nat_cmp r.kids s.kids) (nat_cmp r.symbol s.symbol)
+
+-- the lists have the same rules
+abbrev pub HaveSameRules : List Rule → List Rule → Type 0
+HaveSameRules xs ys = (rule : Rule) → Contains xs rule ↔ Contains ys rule
+
 -- the symbols and parents of the rules with these children
 abbrev pub AreLeads : List Rule → List ℕ → List (ℕ × ℕ) → Type 0
 AreLeads rules kids pairs = (a p : ℕ) → Contains pairs (a, p) ↔ Contains rules (record { symbol = a; kids = kids; parent = p })
@@ -68,9 +84,10 @@ pub record AddsClass (n : ℕ) (first second : List (ℕ × ℕ)) (symbol : ℕ)
   pub stands : Contains new class
   pub symbol_is : class.symbol ≡ symbol
 
--- how an automaton is kept: its rules by parent and by child, and a row of its final states
-pub record IsEncoding (A : Automaton) (clusters uses : List (List Group)) (finals : List Bool) : Type 0 where
+-- how an automaton is kept: its rules by parent, by child and by children, and a row of its final states
+pub record IsEncoding (A : Automaton) (clusters uses : List (List Group)) (by_kids : List Rule) (finals : List Bool) : Type 0 where
   pub rules_of : AreRulesOf clusters (length A.states) A.rules
   pub uses_of : AreUses uses (length A.states) A.rules
+  pub by_kids_of : HaveSameRules by_kids A.rules
   pub width : length finals ≡ length A.states
   pub finals_of : (q : ℕ) → Has finals q ↔ IsFinal A q

@@ -1,13 +1,14 @@
 //! Rules by their parents.
 
-ghost use Rattle.std.specs.Prelude.{◌≡◌, ◌<◌, ◌↔◌, ℕ, List, All, Contains, IfOk, length};
+ghost use Rattle.std.specs.Prelude.{◌≡◌, ◌<◌, ◌↔◌, ◌+◌, ◌++◌, ℕ, List, All, Contains, IfOk, OnOk, length, map};
 ghost use Rattle.ta_model.specs.Tuples.{kids_of};
 ghost use Rattle.ta_model.specs.Classes.{AreAll};
 ghost use Rattle.shared_clusters.specs.Clusters.{AreSymbolsOf, AreTuplesOf, symbols_of, HasRule as Keeps};
-ghost use Rattle.explicit_ta.specs.Index.{AreRulesOf, IsClassAt, AreClassesAt};
+ghost use Rattle.explicit_ta.specs.Index.{AreRulesOf, IsClassAt, AreClassesAt, ListsThese};
 
 use crate::distinct::{append, distinct};
 use shared_clusters::{Clusters, copied};
+use smallvec::SmallVec;
 use std::alloc::{AllocError, Global};
 use ta_model::{Class, Kids, Rule, Tuples};
 
@@ -88,4 +89,54 @@ pub fn tuples_to(alloc: Global, clusters: &Clusters, q: u32) -> Result<Vec<Kids>
         append(&mut all, clusters.tuples(q, *a))?;
     }
     distinct(all)
+}
+
+/// Appends the rule of each of these child tuples.
+fn add_rules(
+    alloc: Global,
+    all: &mut Vec<Rule>,
+    tuples: &[Kids],
+    symbol: u32,
+    parent: u32,
+) -> Result<(), AllocError>
+    ensures { OnOk result (all.new.items ≡ all.old.items ++ map (λ kids. record { symbol = symbol; kids = kids; parent = parent }) (kids_of tuples.now)) }
+{
+    for kids in tuples {
+        let copy = SmallVec::from_slice(alloc, kids.as_slice())?;
+        all.push(Rule {
+            symbol,
+            kids: copy,
+            parent,
+        })?;
+    }
+    Ok(())
+}
+
+/// Appends the rules with parent q to those with lower parents.
+fn add_rules_to(
+    alloc: Global,
+    all: &mut Vec<Rule>,
+    clusters: &Clusters,
+    q: u32,
+) -> Result<(), AllocError>
+    requires within { q < length clusters.now }
+    requires before { ListsThese clusters.now (λ r. r.parent < q) all.old.items }
+    ensures { OnOk result (ListsThese clusters.now (λ r. r.parent < q + 1) all.new.items) }
+{
+    let symbols = symbols_under(alloc, clusters, q)?;
+    for a in &symbols {
+        add_rules(alloc, all, clusters.tuples(q, *a), *a, q)?;
+    }
+    Ok(())
+}
+
+/// The rules of the table.
+pub fn rules_of(alloc: Global, clusters: &Clusters) -> Result<Vec<Rule>, AllocError>
+    ensures { IfOk result (λ v. ListsThese clusters.now (λ r. r.parent < length clusters.now) v.items) }
+{
+    let mut rules = Vec::new(alloc);
+    for q in 0..clusters.parents() {
+        add_rules_to(alloc, &mut rules, clusters, q)?;
+    }
+    Ok(rules)
 }

@@ -5,7 +5,8 @@ ghost use Rattle.tree_definitions.specs.Canonical.{canon};
 ghost use Rattle.tree_definitions.specs.Relation.{Has};
 ghost use Rattle.explicit_ta.specs.Index.{AreRulesOf};
 
-use crate::downward::{classes_at, clusters_of, tuples_to};
+use crate::by_kids::ByKids;
+use crate::downward::{classes_at, clusters_of, rules_of, tuples_to};
 use crate::part::part_of;
 use crate::upward::{leads, tuples_from, up_classes_at, uses_of};
 use bit_rows::Row;
@@ -14,12 +15,13 @@ use std::alloc::{AllocError, Global};
 use std::marker::Model;
 use ta_model::{Class, Kids, Listed, Table, UpClass};
 
-/// An automaton as its lists, with its rules by parent and by child.
+/// An automaton as its lists, with its rules by parent, by child and by children.
 #[derive(Drop)]
 pub struct Explicit {
     list: Listed,
     clusters: Clusters,
     uses: Clusters,
+    by_kids: ByKids,
     finals: Row,
 }
 
@@ -31,7 +33,7 @@ impl Model for Explicit {
 
     ghost view = { λ e. e.list };
 
-    ghost invariant = { λ e. IsEncoding e.list e.clusters e.uses e.finals };
+    ghost invariant = { λ e. IsEncoding e.list e.clusters e.uses e.by_kids e.finals };
 }
 
 /// The row of these states.
@@ -55,11 +57,13 @@ impl Explicit {
     {
         let states = list.states().len() as u32;
         let uses = uses_of(list.allocator(), states, list.rules())?;
+        let by_kids = ByKids::new(list.allocator(), list.rules())?;
         let finals = row_of(list.allocator(), states, list.finals())?;
         Ok(Explicit {
             list,
             clusters,
             uses,
+            by_kids,
             finals,
         })
     }
@@ -115,14 +119,17 @@ impl Table for Explicit {
 
     fn up_classes(&self, first: &[u32], second: &[u32]) -> Result<Vec<UpClass>, AllocError> {
         let alloc = self.list.allocator();
-        let rules = self.list.rules();
-        let first = leads(alloc, rules, first)?;
-        let second = leads(alloc, rules, second)?;
+        let _listed = self.list.rules();
+        let first = leads(alloc, &self.by_kids, first)?;
+        let second = leads(alloc, &self.by_kids, second)?;
         up_classes_at(alloc, self.list.states().len() as u32, &first, &second)
     }
 
     fn restricted(&self, keep: &Row) -> Result<Explicit, AllocError> {
-        Explicit::of_list(part_of(&self.list, keep)?)
+        let mut left = self.clusters.share()?;
+        left.retain_parents(keep)?;
+        let rules = rules_of(self.list.allocator(), &left)?;
+        Explicit::of_list(part_of(&self.list, &rules, keep)?)
     }
 
     fn listed(&self) -> Result<Listed, AllocError> {

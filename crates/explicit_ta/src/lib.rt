@@ -1,6 +1,7 @@
 //! Automata with explicit rules: the lists of an automaton, or of two, with the rules by parent.
 #![tactic(auto)]
 
+mod by_kids;
 mod distinct;
 mod downward;
 mod explicit;

@@ -1,8 +1,9 @@
 //! An automaton with some of its states alone.
 
-ghost use Rattle.std.specs.Prelude.{◌≡◌, ◌<◌, ℕ, All, IfOk, length, map, filter, slice_index};
+ghost use Rattle.std.specs.Prelude.{◌≡◌, ◌≢◌, ◌↔◌, ◌<◌, ℕ, All, AllPairs, Contains, IfOk, length, map, filter, slice_index};
 ghost use Rattle.std.specs.List.{AllZip};
-ghost use Rattle.tree_definitions.specs.Relation.{IsAt};
+ghost use Rattle.tree_definitions.specs.Automaton.{Rule as RuleSpec};
+ghost use Rattle.tree_definitions.specs.Relation.{Has, IsAt};
 ghost use Rattle.ta_model.specs.Listing.{IsListed};
 ghost use Rattle.ta_model.specs.Restriction.{IsRestriction};
 ghost use Rattle.explicit_ta.specs.Moves.{renamed, is_in, is_between, IsNumbering};
@@ -121,9 +122,11 @@ fn rules_between(
     Ok(kept)
 }
 
-/// The automaton with the kept states alone.
-pub fn part_of(a: &Listed, keep: &Row) -> Result<Listed, AllocError>
-    requires { length keep.now ≡ length a.now.states }
+/// The automaton with the kept states alone, where `left` are its rules with kept parents.
+pub fn part_of(a: &Listed, left: &[Rule], keep: &Row) -> Result<Listed, AllocError>
+    requires width { length keep.now ≡ length a.now.states }
+    requires distinct { AllPairs ◌≢◌ left.now }
+    requires rules { (r : RuleSpec) → Contains left.now r ↔ (Contains a.now.rules r × Has keep.now r.parent) }
     ensures { IfOk result (λ part. IsRestriction a.now keep.now part) }
 {
     let alloc = a.allocator();
@@ -133,6 +136,6 @@ pub fn part_of(a: &Listed, keep: &Row) -> Result<Listed, AllocError>
     let symbols = Vec::from_clones(alloc, a.symbols())?;
     let names = names_at(alloc, states, &kept)?;
     let finals = kept_numbers(alloc, a.finals(), keep, &numbers)?;
-    let rules = rules_between(alloc, a.rules(), keep, &numbers)?;
+    let rules = rules_between(alloc, left, keep, &numbers)?;
     Ok(Listed::new(name, symbols, names, finals, rules))
 }

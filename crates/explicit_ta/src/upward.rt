@@ -6,6 +6,7 @@ ghost use Rattle.ta_model.specs.Tuples.{kids_of};
 ghost use Rattle.shared_clusters.specs.Clusters.{AreTuplesOf};
 ghost use Rattle.explicit_ta.specs.Index.{AreLeads, AreParentsUnder, AreUpClassesAt, AddsClass, AreUses, ListsUses, GainsUses};
 
+use crate::by_kids::ByKids;
 use crate::downward::clusters_of;
 use bit_rows::Row;
 use shared_clusters::{Clusters, copied};
@@ -59,30 +60,15 @@ pub fn tuples_from(alloc: Global, uses: &Clusters, q: u32) -> Result<Vec<Kids>, 
     copied(alloc, uses.tuples(q, 0))
 }
 
-/// The symbols and parents of the rules with these children.
-fn leads_in_order(
-    alloc: Global,
-    rules: &[Rule],
-    kids: &[u32],
-) -> Result<Vec<(u32, u32)>, AllocError>
-    ensures { IfOk result (λ v. AreLeads rules.now kids.now v.items) }
-{
-    let mut pairs = Vec::new(alloc);
-    for rule in rules {
-        if rule.kids.as_slice() == kids {
-            pairs.push((rule.symbol, rule.parent))?;
-        }
-    }
-    Ok(pairs)
-}
-
 /// The symbols and parents of the rules with these children, by symbol.
-pub fn leads(alloc: Global, rules: &[Rule], kids: &[u32]) -> Result<Vec<(u32, u32)>, AllocError>
+pub fn leads(alloc: Global, rules: &ByKids, kids: &[u32]) -> Result<Vec<(u32, u32)>, AllocError>
     ensures members { IfOk result (λ v. AreLeads rules.now kids.now v.items) }
     ensures rising { IfOk result (λ v. IsNonDecreasingBy (λ x. x.0) v.items) }
 {
-    let mut pairs = leads_in_order(alloc, rules, kids)?;
-    pairs.sort_by_key(|x| x.0)?;
+    let mut pairs = Vec::new(alloc);
+    for rule in rules.at(kids) {
+        pairs.push((rule.symbol, rule.parent))?;
+    }
     Ok(pairs)
 }
 

@@ -1,11 +1,11 @@
-use Rattle.std.proofs.Common.{◌≡◌, ◌≢◌, ◌⊎◌, inl, inr, ◌<◌, ◌≤◌, ◌+◌, ◌∙◌, ℕ, List, length, get_or, refl, sym, ap, subst, arith, ⊎_elim}
+use Rattle.std.proofs.Common.{◌≡◌, ◌≢◌, ◌⊎◌, inl, inr, ◌<◌, ◌≤◌, ◌+◌, ◌∙◌, length, get_or, refl, ap, subst, arith, ⊎_elim}
 use Rattle.std.proofs.lemmas.Bool.{cases_eq}
 use Rattle.std.proofs.lemmas.Option.{slice_get_read, slice_get_within, slice_get-get_or}
 use Rattle.tree_definitions.specs.Automaton.{Rule}
 use Rattle.tree_definitions.specs.Product.{Both}
 use Rattle.tree_definitions.specs.Relation.{IsAt}
 use Rattle.bool_ops.specs.Closing.{Adds}
-use Rattle.bool_ops.specs.Filing.{entries_of, slot_of, HasSlotsTo}
+use Rattle.bool_ops.specs.Filing.{entries_of, slot_of}
 use Rattle.bool_ops.proofs.Filed.{slots_add, rule_done}
 use Rattle.bool_ops.proofs.by_place.slots_of.Goals as goal
 

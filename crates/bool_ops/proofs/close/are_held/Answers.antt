@@ -1,10 +1,10 @@
-use Rattle.std.proofs.Common.{◌≡◌, ◌≢◌, ◌<◌, ◌≤◌, ◌+◌, refl, ℕ, true, false, List, length, get_or, sym, ap, ◌∙◌, subst, arith, ⊎_elim, Contains}
+use Rattle.std.proofs.Common.{◌≡◌, ◌≢◌, ◌<◌, ◌+◌, refl, ℕ, List, length, get_or, sym, ◌∙◌, subst, arith, ⊎_elim, Contains}
 use Rattle.std.proofs.lemmas.Bool.{cases_eq, false≢true}
 use Rattle.std.proofs.lemmas.Option.{slice_get-get_or, slice_get_within}
 use Rattle.tree_definitions.specs.Product.{Both}
 use Rattle.tree_definitions.specs.Relation.{IsAt}
 use Rattle.tree_definitions.proofs.Members.{at_unique}
-use Rattle.bool_ops.specs.Closing.{both, AreHeld}
+use Rattle.bool_ops.specs.Closing.{both}
 use Rattle.bool_ops.proofs.close.are_held.Goals as goal
 
 -- one more place is held

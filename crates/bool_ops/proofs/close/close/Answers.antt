@@ -1,9 +1,8 @@
-use Rattle.std.proofs.Common.{◌≡◌, ◌<◌, ◌≤◌, ℕ, List, [], length, sym, subst, arith}
+use Rattle.std.proofs.Common.{◌≡◌, ℕ, [], length, subst, arith}
 use Rattle.tree_definitions.specs.Automaton.{Rule}
-use Rattle.tree_definitions.specs.Product.{Both}
 use Rattle.tree_definitions.specs.Relation.{IsAt}
 use Rattle.tree_definitions.proofs.Members.{contains_at}
-use Rattle.bool_ops.specs.Closing.{AreAlike, Grows, Settled, IsClosing, HasTooMany}
+use Rattle.bool_ops.specs.Closing.{AreAlike, Grows, Settled}
 use Rattle.bool_ops.proofs.Ended.{together_left, closing_start, closing_step, closing_end}
 use Rattle.bool_ops.proofs.close.close.Goals as goal
 

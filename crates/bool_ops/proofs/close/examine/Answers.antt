@@ -1,8 +1,7 @@
-use Rattle.std.proofs.Common.{◌≡◌, ◌<◌, ℕ, List, length, refl, sym, ap, ◌∙◌, subst}
+use Rattle.std.proofs.Common.{◌≡◌, length, refl, ap, ◌∙◌, subst}
 use Rattle.std.proofs.lemmas.Option.{slice_get_read}
 use Rattle.std.proofs.lemmas.Result.{IfOk-weaker}
 use Rattle.tree_definitions.specs.Automaton.{Rule}
-use Rattle.tree_definitions.specs.Product.{Both}
 use Rattle.tree_definitions.specs.Relation.{IsAt}
 use Rattle.bool_ops.specs.Closing.{both, AreAlike, AreHeld, AddsBelow, Grows, Settled}
 use Rattle.bool_ops.proofs.Closed.{taken_grows, taken_settled}

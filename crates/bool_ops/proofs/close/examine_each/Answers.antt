@@ -1,8 +1,7 @@
-use Rattle.std.proofs.Common.{◌≡◌, ◌<◌, ◌∙◌, ℕ, length, get_or, Contains, arith}
+use Rattle.std.proofs.Common.{arith}
 use Rattle.std.proofs.lemmas.Option.{slice_get_within}
-use Rattle.tree_definitions.specs.Relation.{IsAt}
 use Rattle.tree_definitions.proofs.Members.{place_of}
-use Rattle.bool_ops.specs.Closing.{Grows, Settled}
+use Rattle.bool_ops.specs.Closing.{Grows}
 use Rattle.bool_ops.proofs.Closed.{grows_on}
 use Rattle.bool_ops.proofs.Explored.{list_step}
 use Rattle.bool_ops.proofs.close.examine_each.Goals as goal

@@ -1,9 +1,9 @@
-use Rattle.std.proofs.Common.{◌≡◌, ◌<◌, ◌∙◌, ℕ, List, length, get_or, Contains, ap, subst, arith}
+use Rattle.std.proofs.Common.{subst, arith}
 use Rattle.std.proofs.lemmas.Option.{slice_get_within}
 use Rattle.tree_definitions.specs.Product.{Both}
 use Rattle.tree_definitions.specs.Relation.{IsAt}
 use Rattle.tree_definitions.proofs.Members.{place_of}
-use Rattle.bool_ops.specs.Closing.{Grows, SettledWith}
+use Rattle.bool_ops.specs.Closing.{Grows}
 use Rattle.bool_ops.proofs.Closed.{grows_on}
 use Rattle.bool_ops.proofs.Explored.{rules_step}
 use Rattle.bool_ops.proofs.close.explore.Goals as goal

@@ -1,4 +1,4 @@
-use Rattle.std.proofs.Common.{◌<◌, ℕ, slice_get}
+use Rattle.std.proofs.Common.{◌<◌, ℕ}
 use Rattle.tree_definitions.specs.Relation.{IsAt}
 use Rattle.bool_ops.specs.Closing.{Grows, SettledWith}
 use Rattle.bool_ops.proofs.close.explore.Given as goal

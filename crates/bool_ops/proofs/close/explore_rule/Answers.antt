@@ -1,10 +1,10 @@
-use Rattle.std.proofs.Common.{◌≡◌, ◌≢◌, ◌<◌, ◌∙◌, ℕ, List, length, get_or, Contains, refl, sym, ap, subst, arith}
+use Rattle.std.proofs.Common.{◌≡◌, ◌≢◌, ◌∙◌, ℕ, length, get_or, refl, sym, ap, subst, arith}
 use Rattle.std.proofs.lemmas.Option.{slice_get_read, slice_get_within, slice_get-get_or}
 use Rattle.tree_definitions.specs.Automaton.{Rule}
 use Rattle.tree_definitions.specs.Product.{Both}
 use Rattle.tree_definitions.specs.Relation.{IsAt}
 use Rattle.tree_definitions.proofs.Members.{at_unique}
-use Rattle.bool_ops.specs.Closing.{Grows, Settled}
+use Rattle.bool_ops.specs.Closing.{Grows}
 use Rattle.bool_ops.specs.Filing.{slot_of}
 use Rattle.bool_ops.proofs.Closed.{grows_on}
 use Rattle.bool_ops.proofs.Explored.{rules_within, rules_at, place_step, place_past}

@@ -1,9 +1,9 @@
-use Rattle.std.proofs.Common.{◌≡◌, ◌≢◌, ◌<◌, ◌∙◌, ◌==◌, ℕ, true, false, List, [], ◌∷◌, length, get_or, Contains, refl, sym, ap, subst, arith}
+use Rattle.std.proofs.Common.{◌≡◌, ◌≢◌, ◌∙◌, ◌==◌, ℕ, false, [], length, refl, sym, ap, subst, arith}
 use Rattle.std.proofs.lemmas.Bool.{false≢true}
 use Rattle.std.proofs.lemmas.Option.{slice_get_read, slice_get_within}
 use Rattle.tree_definitions.specs.Automaton.{Rule}
 use Rattle.tree_definitions.specs.Relation.{IsAt}
-use Rattle.bool_ops.specs.Closing.{Grows, Settled}
+use Rattle.bool_ops.specs.Closing.{Grows}
 use Rattle.bool_ops.specs.Filing.{slot_of}
 use Rattle.bool_ops.proofs.Closed.{grows_on}
 use Rattle.bool_ops.proofs.Explored.{rules_within, rules_at, leaf_step, leaf_past}

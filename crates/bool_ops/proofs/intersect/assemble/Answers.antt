@@ -1,17 +1,21 @@
-use Rattle.std.proofs.Common.{◌≡◌, ◌≢◌, ◌<◌, ◌≤◌, ◌^◌, ◌↔◌, ◌∙◌, ℕ, List, length, map, codes, sym, ap, subst, arith}
+use Rattle.std.proofs.Common.{◌≡◌, ◌≢◌, ◌<◌, ◌≤◌, ◌↔◌, ◌∙◌, ℕ, List, length, map, codes, refl, sym, ap, subst, arith}
 use Rattle.std.specs.Prelude.{All, AllPairs, Contains}
 use Rattle.std.specs.List.{AllZip}
+use Rattle.std.proofs.lemmas.List.{length-map}
 use Rattle.tree_definitions.specs.Tree.{Symbol}
 use Rattle.tree_definitions.specs.Automaton.{Automaton, Rule}
-use Rattle.tree_definitions.specs.Canonical.{canon}
+use Rattle.tree_definitions.specs.Canonical.{canon, in_order, rule_cmp}
 use Rattle.tree_definitions.specs.Name.{IsName}
-use Rattle.tree_definitions.specs.Product.{Both, pair_name}
+use Rattle.tree_definitions.specs.Product.{pair_name}
 use Rattle.tree_definitions.specs.Relation.{Has}
+use Rattle.tree_definitions.proofs.CanonicalForms.{rules_total, rules_exact}
+use Rattle.tree_definitions.proofs.InOrder.{in_order_same}
 use Rattle.ta_model.specs.Listing.{IsListed}
 use Rattle.bool_ops.specs.Joined.{FitTogether, IsPairOf}
 use Rattle.bool_ops.proofs.Assembled.{multiplies}
+use Rattle.bool_ops.proofs.Counted.{no_more}
 use Rattle.bool_ops.proofs.Finished.{left_states, right_states, small_states, all_fit, rising_apart}
-use Rattle.bool_ops.proofs.WellFormed.{well_formed, joint_names}
+use Rattle.bool_ops.proofs.WellFormed.{well_formed, joint_names, zip_length}
 use Rattle.bool_ops.proofs.intersect.assemble.Goals as goal
 
 pub finals-requires-3-clause-left : goal.finals-requires-3-clause-left
@@ -100,3 +104,24 @@ returns-clause-product c =
       c.in_ok-canonical.ensures ∙ ap canon (c.new-product.ensures
           ∙ same_parts c.in-Ok.name (codes "isect") c.in_ok-symbols.symbols.items S c.in_ok-names.names.items (map pair_name Z) fs rs title symbols c.in_ok-names.ensures.value),
     )
+
+pub returns-clause-few_states : goal.returns-clause-few_states
+returns-clause-few_states c =
+    let Z = c.in_ok-states.states in
+    let states : c.in_ok-canonical.canonical.states ≡ map pair_name Z =
+    ap (λ (o : Automaton). o.states) c.in_ok-canonical.ensures ∙ ap (λ (o : Automaton). o.states) c.new-product.ensures ∙ c.in_ok-names.ensures.value in
+    let size = ap length states ∙ length-map Z pair_name ∙ c.in_ok-states.ensures.size in
+    let few = c.requires.closed.few in
+    omega (arith, size, few)
+
+pub returns-clause-few_rules : goal.returns-clause-few_rules
+returns-clause-few_rules c =
+    let rs = c.in_ok-rules.rules.items in
+    let rules : c.in_ok-canonical.canonical.rules ≡ in_order rule_cmp rs =
+    ap (λ (o : Automaton). o.rules) c.in_ok-canonical.ensures ∙ ap (λ (o : Automaton). in_order rule_cmp o.rules) c.new-product.ensures in
+    let most = no_more {X = Rule} {Y = Rule} (λ x y. x ≡ y) (λ x z y e d. e ∙ sym d) (in_order rule_cmp rs) rs (subst (AllPairs ◌≢◌) rules c.rules-rules.ensures.listed.automaton.rules)
+    (λ x h. (x, (in_order_same rule_cmp rules_total rules_exact rs x).0 h, refl)) in
+    let size = zip_length (IsPairOf c.rules.result.now c.args.theirs.now c.in_ok-states.states) c.args.found.now rs c.in_ok-rules.ensures in
+    let same = ap length rules in
+    let few = c.requires.few in
+    omega (arith, most, size, same, few)

@@ -5,7 +5,7 @@ use Rattle.tree_definitions.specs.Canonical.{canon}
 use Rattle.tree_definitions.specs.Language.{Accepts}
 use Rattle.tree_definitions.specs.Tree.{Tree}
 use Rattle.bool_ops.specs.Results.{IsCanonicalProduct, HasMoreStates, HasMoreRules}
-use Rattle.bool_ops.proofs.CanonicalProduct.{canonical_out, accepts_both, more_states_out}
+use Rattle.bool_ops.proofs.CanonicalProduct.{canonical_out, accepts_both, more_states_in, more_states_out, more_rules_in, more_rules_out}
 use Rattle.bool_ops.proofs.intersect.isect.Goals as goal
 
 -- the product of two automata that are canonical forms
@@ -29,15 +29,29 @@ returns-clause-language g c =
 
 pub returns-clause-states : goal.returns-clause-states
 returns-clause-states g c e =
-    let A = g.J.Joint.left c.args.j.now in
-    let B = g.J.Joint.right c.args.j.now in
-    more_states_out A B 1000000
-    (subst (λ (r : Automaton). HasMoreStates (canon A) r 1000000) c.in_ok-left.ensures.right
-    (subst (λ (l : Automaton). HasMoreStates l c.in_ok-left.right 1000000) c.in_ok-left.ensures.left (c.product_of.ensures.states e)))
+    more_states_out (g.J.Joint.left c.args.j.now) (g.J.Joint.right c.args.j.now) c.in_ok-left.left c.in_ok-left.right 1000000 c.in_ok-left.ensures.left c.in_ok-left.ensures.right
+    (c.product_of.ensures.states e)
 
 pub returns-clause-rules : goal.returns-clause-rules
 returns-clause-rules g c e =
+    more_rules_out (g.J.Joint.left c.args.j.now) (g.J.Joint.right c.args.j.now) c.in_ok-left.left c.in_ok-left.right 2000000 c.in_ok-left.ensures.left c.in_ok-left.ensures.right
+    (c.product_of.ensures.rules e)
+
+pub returns-clause-states_first : goal.returns-clause-states_first
+returns-clause-states_first g c e h =
+    c.product_of.ensures.states_first e
+    (more_states_in (g.J.Joint.left c.args.j.now) (g.J.Joint.right c.args.j.now) c.in_ok-left.left c.in_ok-left.right 1000000 c.in_ok-left.ensures.left c.in_ok-left.ensures.right h)
+
+pub returns-clause-fewer_states : goal.returns-clause-fewer_states
+returns-clause-fewer_states g c =
     let A = g.J.Joint.left c.args.j.now in
     let B = g.J.Joint.right c.args.j.now in
-    subst (λ (r : Automaton). HasMoreRules (canon A) r 2000000) c.in_ok-left.ensures.right
-    (subst (λ (l : Automaton). HasMoreRules l c.in_ok-left.right 2000000) c.in_ok-left.ensures.left (c.product_of.ensures.rules e))
+    IfOk-weaker c.product_of.result _ (λ _. HasMoreStates A B 1000000 → ⊥)
+    (λ C few h. few (more_states_in A B c.in_ok-left.left c.in_ok-left.right 1000000 c.in_ok-left.ensures.left c.in_ok-left.ensures.right h)) c.product_of.ensures.fewer_states
+
+pub returns-clause-fewer_rules : goal.returns-clause-fewer_rules
+returns-clause-fewer_rules g c =
+    let A = g.J.Joint.left c.args.j.now in
+    let B = g.J.Joint.right c.args.j.now in
+    IfOk-weaker c.product_of.result _ (λ _. HasMoreRules A B 2000000 → ⊥)
+    (λ C few h. few (more_rules_in A B c.in_ok-left.left c.in_ok-left.right 2000000 c.in_ok-left.ensures.left c.in_ok-left.ensures.right h)) c.product_of.ensures.fewer_rules

@@ -1,16 +1,17 @@
-use Rattle.std.proofs.Common.{◌≡◌, ◌≢◌, ◌<◌, ◌∙◌, ℕ, List, length, map, sym, ap, subst, arith, Err}
+use Rattle.std.proofs.Common.{◌≡◌, ◌≢◌, ◌<◌, ◌≤◌, ◌∙◌, ℕ, List, length, map, sym, ap, subst, arith, Err}
 use Rattle.std.specs.Prelude.{All, AllPairs}
-use Rattle.std.specs.List.{AllZip}
 use Rattle.std.proofs.lemmas.List.Elements.{All-weaker}
 use Rattle.std.proofs.lemmas.Option.{slice_get_within}
-use Rattle.tree_definitions.specs.Automaton.{Rule, FitsRule, HasRule}
+use Rattle.std.proofs.lemmas.Result.{IfOk-weaker}
+use Rattle.tree_definitions.specs.Automaton.{Automaton, Rule, FitsRule, HasRule}
 use Rattle.tree_definitions.specs.Product.{Both}
 use Rattle.tree_definitions.specs.Relation.{IsAt}
 use Rattle.bool_ops.specs.Closing.{IsClosed, HasTooMany}
 use Rattle.bool_ops.specs.Joined.{StandFor, renumbered}
+use Rattle.bool_ops.specs.Results.{HasMoreStates, HasMoreRules}
 use Rattle.bool_ops.specs.declared.error.OpError.TheVariants.{TooManyStates}
-use Rattle.bool_ops.proofs.Limits.{more_states, more_rules}
-use Rattle.bool_ops.proofs.Stands.{stand_for, zip_at}
+use Rattle.bool_ops.proofs.Limits.{more_states, more_rules, fewer_states, fewer_rules}
+use Rattle.bool_ops.proofs.Stands.{stand_for}
 use Rattle.bool_ops.proofs.WellFormed.{renumbered_apart, zip_length}
 use Rattle.bool_ops.proofs.intersect.product_of.Goals as goal
 
@@ -66,3 +67,50 @@ assemble-requires-clause-distinct c =
     let theirs : c.deref-4.result.now ≡ map (renumbered numbers) B.rules =
     c.deref-4.ensures.value ∙ c.in_ok-theirs.ensures ∙ ap (λ n. map (renumbered n) c.rules.result.now) c.deref.ensures.value ∙ ap (map (renumbered numbers)) c.rules.ensures.value in
     subst (AllPairs ◌≢◌) (sym theirs) (renumbered_apart B c.in-Ok.alphabet numbers c.requires.right.automaton c.in-Ok.ensures.numbers)
+
+-- the lists that were closed, over the rules of both
+closed_lists : (A B : Automaton) (ours theirs : List Rule) (numbers : List ℕ) (p f : List Both) → ours ≡ A.rules → theirs ≡ map (renumbered numbers) B.rules
+    → IsClosed ours theirs p f → IsClosed A.rules (map (renumbered numbers) B.rules) p f
+closed_lists A B ours theirs numbers p f e d h =
+    subst (λ t. IsClosed A.rules t p f) d (subst (λ o. IsClosed o theirs p f) e h)
+
+pub returns-then-len-gt-MOST_RULES-clause-states_first : goal.returns-then-len-gt-MOST_RULES-clause-states_first
+returns-then-len-gt-MOST_RULES-clause-states_first c e =
+    let A = c.args.left.now in
+    let B = c.args.right.now in
+    let numbers = c.in-Ok.numbers.items in
+    let p = c.close.new.pairs in
+    let f = c.close.new.found in
+    let theirs : c.deref-3.result.now ≡ map (renumbered numbers) B.rules =
+    c.deref-3.ensures.value ∙ c.in_ok-theirs.ensures ∙ ap (λ n. map (renumbered n) c.rules.result.now) c.deref.ensures.value ∙ ap (map (renumbered numbers)) c.rules.ensures.value in
+    fewer_states A B c.in-Ok.alphabet numbers c.requires.left.automaton c.requires.right.automaton c.in-Ok.ensures.symbols c.in-Ok.ensures.alphabet.distinct c.in-Ok.ensures.numbers p f
+    (closed_lists A B c.rules-3.result.now c.deref-3.result.now numbers p f c.rules-3.ensures.value theirs c.in_default-close.ensures.closed)
+
+pub returns-clause-fewer_states : goal.returns-clause-fewer_states
+returns-clause-fewer_states c =
+    let A = c.args.left.now in
+    let B = c.args.right.now in
+    let numbers = c.in-Ok.numbers.items in
+    let p = c.close.new.pairs in
+    let f = c.close.new.found in
+    let theirs : c.deref-3.result.now ≡ map (renumbered numbers) B.rules =
+    c.deref-3.ensures.value ∙ c.in_ok-theirs.ensures ∙ ap (λ n. map (renumbered n) c.rules.result.now) c.deref.ensures.value ∙ ap (map (renumbered numbers)) c.rules.ensures.value in
+    let closed = closed_lists A B c.rules-3.result.now c.deref-3.result.now numbers p f c.rules-3.ensures.value theirs c.in_default-close.ensures.closed in
+    IfOk-weaker c.assemble.result _ (λ _. HasMoreStates A B 1000000 → ⊥)
+    (λ C few. fewer_states A B c.in-Ok.alphabet numbers c.requires.left.automaton c.requires.right.automaton c.in-Ok.ensures.symbols c.in-Ok.ensures.alphabet.distinct c.in-Ok.ensures.numbers p f closed)
+    c.assemble.ensures.few_states
+
+pub returns-clause-fewer_rules : goal.returns-clause-fewer_rules
+returns-clause-fewer_rules c =
+    let A = c.args.left.now in
+    let B = c.args.right.now in
+    let numbers = c.in-Ok.numbers.items in
+    let p = c.close.new.pairs in
+    let f = c.close.new.found in
+    let theirs : c.deref-3.result.now ≡ map (renumbered numbers) B.rules =
+    c.deref-3.ensures.value ∙ c.in_ok-theirs.ensures ∙ ap (λ n. map (renumbered n) c.rules.result.now) c.deref.ensures.value ∙ ap (map (renumbered numbers)) c.rules.ensures.value in
+    let closed = closed_lists A B c.rules-3.result.now c.deref-3.result.now numbers p f c.rules-3.ensures.value theirs c.in_default-close.ensures.closed in
+    let few : length f ≤ 2000000 = omega (arith, c.len.ensures.value, c.if-len-gt-MOST_RULES.false) in
+    IfOk-weaker c.assemble.result _ (λ _. HasMoreRules A B 2000000 → ⊥)
+    (λ C _. fewer_rules A B c.in-Ok.alphabet numbers c.requires.left.automaton c.requires.right.automaton c.in-Ok.ensures.symbols c.in-Ok.ensures.alphabet.distinct c.in-Ok.ensures.numbers p f closed few)
+    c.assemble.ensures.few_rules

@@ -1,9 +1,9 @@
-use Rattle.std.proofs.Common.{◌≡◌, ◌≢◌, ◌∙◌, ◌≤◌, List, length, take, sym, subst}
+use Rattle.std.proofs.Common.{◌≡◌, ◌≢◌, ◌∙◌, sym, subst}
 use Rattle.std.specs.Prelude.{AllPairs, Contains}
 use Rattle.std.specs.List.Sorted.{IsPermutation, IsSorted}
 use Rattle.std.proofs.lemmas.List.{take_all}
 use Rattle.std.proofs.lemmas.List.Sorted.{Contains-permutation, IsPermutation-sym}
-use Rattle.tree_definitions.specs.Product.{Both, Precedes}
+use Rattle.tree_definitions.specs.Product.{Precedes}
 use Rattle.bool_ops.proofs.Ordered.{next_added, sorted_rises, still_apart, pair_cmp}
 use Rattle.bool_ops.proofs.product.in_order.Goals as goal
 

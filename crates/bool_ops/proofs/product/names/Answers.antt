@@ -1,9 +1,9 @@
-use Rattle.std.proofs.Common.{◌≡◌, ◌∙◌, List, [], ◌∷◌, ◌++◌, ℕ, ap, sym, subst, append_assoc}
+use Rattle.std.proofs.Common.{◌≡◌, ◌∙◌, [], ◌∷◌, ap, sym, subst, append_assoc}
 use Rattle.std.specs.Prelude.{decimal}
 use Rattle.std.specs.Prelude.{All}
 use Rattle.std.proofs.lemmas.List.Elements.{All-push}
 use Rattle.tree_definitions.specs.Name.{IsName}
-use Rattle.tree_definitions.specs.Product.{Both, pair_name}
+use Rattle.tree_definitions.specs.Product.{pair_name}
 use Rattle.bool_ops.proofs.Parts.{map_more}
 use Rattle.bool_ops.proofs.product.names.Goals as goal
 

@@ -1,4 +1,4 @@
-use Rattle.std.proofs.Common.{◌≡◌, ◌+◌, ℕ, List, take, sym, subst}
+use Rattle.std.proofs.Common.{◌+◌, ℕ, List, take, sym, subst}
 use Rattle.std.specs.List.{AllZip}
 use Rattle.tree_definitions.specs.Relation.{IsAt}
 use Rattle.bool_ops.specs.Joined.{pairs_of}

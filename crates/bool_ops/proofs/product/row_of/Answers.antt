@@ -1,4 +1,4 @@
-use Rattle.std.proofs.Common.{◌≡◌, ◌∙◌, ◌↔◌, ℕ, List, Contains, subst}
+use Rattle.std.proofs.Common.{◌∙◌, ◌↔◌, Contains, subst}
 use Rattle.std.proofs.lemmas.List.{take_all}
 use Rattle.tree_definitions.specs.Relation.{Has}
 use Rattle.bool_ops.proofs.Parts.{row_more}

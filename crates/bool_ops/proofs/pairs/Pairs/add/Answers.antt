@@ -1,4 +1,4 @@
-use Rattle.std.proofs.Common.{◌≡◌, List, subst}
+use Rattle.std.proofs.Common.{List, subst}
 use Rattle.tree_definitions.specs.Product.{Both}
 use Rattle.bool_ops.specs.Closing.{Adds}
 use Rattle.bool_ops.proofs.Numbers.{added}

@@ -1,4 +1,4 @@
-use Rattle.std.proofs.Common.{◌≡◌, Some, slice_get, List, ap, subst}
+use Rattle.std.proofs.Common.{◌≡◌, Some, slice_get, List, subst}
 use Rattle.std.specs.Prelude.{IfSome}
 use Rattle.tree_definitions.specs.Product.{Both}
 use Rattle.bool_ops.proofs.Numbers.{found}

@@ -1,5 +1,4 @@
-use Rattle.std.proofs.Common.{◌≡◌, Contains, List, sym, subst, ◌∙◌}
-use Rattle.tree_definitions.specs.Product.{Both}
+use Rattle.std.proofs.Common.{Contains, sym, subst, ◌∙◌}
 use Rattle.bool_ops.proofs.Numbers.{any_member, member_any}
 use Rattle.bool_ops.proofs.pairs.Pairs.holds.Goals as goal
 
