@@ -1,0 +1,5 @@
+pub mod Lists
+pub mod ClassSteps
+pub mod Repeats
+pub mod Merging
+pub mod Useful

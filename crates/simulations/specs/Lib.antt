@@ -1,0 +1,4 @@
+pub mod Relations
+pub mod Clearing
+pub mod DownCases
+pub mod UpCases
