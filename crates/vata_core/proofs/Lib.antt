@@ -5,3 +5,5 @@ pub mod Walk
 pub mod Reasons
 pub mod Halts
 pub mod Orders
+pub mod RelationLines
+pub mod Measures

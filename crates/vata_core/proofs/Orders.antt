@@ -1,6 +1,5 @@
 -- The order of an automaton's finals and rules says nothing of what is made of it.
-use Rattle.std.proofs.Common.{◌≡◌, ◌⊎◌, ℕ, Bool, true, false, List, [], ◌∷◌, map, inl, inr, refl, sym, ap, ◌∙◌, subst}
-use Rattle.std.specs.Prelude.{Contains}
+use Rattle.std.proofs.Common.{◌≡◌, ◌⊎◌, ℕ, Bool, true, false, List, [], ◌∷◌, inl, inr, refl, sym, ◌∙◌}
 use Rattle.std.specs.Ordering.{nat_cmp}
 use Rattle.std.proofs.lemmas.Cmp.{nat_cmp_total}
 use Rattle.std.proofs.lemmas.Map.Lookups.{exact_unsigned}
@@ -10,9 +9,8 @@ use Rattle.tree_definitions.specs.Automaton.{Automaton, HasRule, IsFinal}
 use Rattle.tree_definitions.specs.Language.{Reaches}
 use Rattle.tree_definitions.specs.Joint.{JointRule, right}
 use Rattle.tree_definitions.specs.Canonical.{canon, in_order, rule_cmp}
-use Rattle.tree_definitions.specs.Trim.{Climbs, IsTrim, TrimsTo}
+use Rattle.tree_definitions.specs.Trim.{Climbs, IsTrim}
 use Rattle.tree_definitions.specs.Union.{IsUnion}
-use Rattle.tree_definitions.specs.Product.{Both, IsProduct, MultipliesTo}
 use Rattle.tree_definitions.proofs.CanonicalForms.{rules_total, rules_exact}
 use Rattle.tree_definitions.proofs.Sorted.{in_order_is}
 use Rattle.tree_definitions.proofs.InOrder.{canon_finals, in_order_rises, rule_in, rule_out, moved}
@@ -58,30 +56,6 @@ union_alike A B U h = record {
     rules_in : (a : Symbol) (kids : List ℕ) (q : ℕ) → JointRule A B a kids q → JointRule (canon A) (canon B) a kids q
     rules_in a kids q (inl r) = inl (rule_in A a kids q r)
     rules_in a kids q (inr r) = inr (r.0, r.1, r.2, r.3, rule_in B a r.0 r.1 r.4)
-
--- the product is that of the canonical forms
-pub product_alike : (A B P : Automaton) → IsProduct (canon A) (canon B) P → IsProduct A B P
-product_alike A B P h = (
-  h.0,
-  record {
-    name = h.1.name;
-    symbols = h.1.symbols;
-    rising = h.1.rising;
-    reached = λ x. (
-      λ c. let t = (h.1.reached x).0 c in (t.0, reaches_out A t.0 x.left t.1, reaches_out B t.0 x.right t.2),
-      λ t. (h.1.reached x).1 (t.0, reaches_in A t.0 x.left t.1, reaches_in B t.0 x.right t.2),
-    );
-    states = h.1.states;
-    finals = λ k. (
-      λ f. let x = (h.1.finals k).0 f in (x.0, x.1, (canon_finals A x.0.left).0 x.2, (canon_finals B x.0.right).0 x.3),
-      λ x. (h.1.finals k).1 (x.0, x.1, (canon_finals A x.0.left).1 x.2, (canon_finals B x.0.right).1 x.3),
-    );
-    rules = λ a kids k. (
-      λ r. let x = (h.1.rules a kids k).0 r in (x.0, x.1, x.2, x.3, rule_out A a (map (λ y. y.left) x.0) x.1.left x.4, rule_out B a (map (λ y. y.right) x.0) x.1.right x.5),
-      λ x. (h.1.rules a kids k).1 (x.0, x.1, x.2, x.3, rule_in A a (map (λ y. y.left) x.0) x.1.left x.4, rule_in B a (map (λ y. y.right) x.0) x.1.right x.5),
-    );
-  },
-)
 
 climbs_out : (A : Automaton) (q : ℕ) (path : List ℕ) → Climbs (canon A) q path → Climbs A q path
 climbs_out A q [] h = ((h.0.0, reaches_out A h.0.0 q h.0.1), (canon_finals A q).0 h.1)

@@ -5,13 +5,22 @@ use Rattle.tree_definitions.specs.Canonical.{canon}
 use Rattle.timbuk_definitions.specs.Printed.{plain_text}
 use Rattle.tree_definitions.specs.Union.{IsUnion}
 use Rattle.trim_ops.specs.Trimmed.{IsCanonicalTrim}
-use Rattle.vata_core.specs.Request.{Request, Load, Union}
+use Rattle.tree_definitions.specs.Product.{IsProduct}
+use Rattle.tree_definitions.specs.Quotient.{IsGreatestDown}
+use Rattle.tree_definitions.specs.Relation.{Matrix}
+use Rattle.quotient.specs.Merged.{IsCanonicalQuotient}
+use Rattle.simulations.specs.Relations.{IsGreatestUp}
+use Rattle.vata_words.specs.declared.request.Dir.{Dir}
+use Rattle.vata_words.specs.declared.request.Dir.TheVariants.{Up, Down}
+use Rattle.vata_core.specs.Request.{Request, Load, Union, Isect, Sim, Red}
+use Rattle.vata_core.specs.RelationText.{relation_text}
 use Rattle.vata_core.specs.declared.status.Status.{Status}
 use Rattle.vata_core.specs.declared.status.Status.TheVariants as status
 
--- an automaton
+-- an automaton; or the names of states, and a relation between them of one direction
 pub data Answer : Type 0 where
   Listing : Automaton → Answer
+  Related : (dir : Dir) (states : List (List ℕ)) (pairs : Matrix) → Answer
 
 -- P holds of the only automaton
 abbrev pub OfOne : (Automaton → Type 0) → List Automaton → Type 0
@@ -31,15 +40,30 @@ abbrev pub IsForm : Bool → Automaton → Automaton → Type 0
 IsForm false A L = L ≡ canon A
 IsForm true A L = IsCanonicalTrim A L
 
+-- the rows are those of the greatest simulation of this direction
+abbrev pub IsGreatest : Dir → Automaton → Matrix → Type 0
+IsGreatest Up A m = IsGreatestUp A m
+IsGreatest Down A m = IsGreatestDown A m
+
 -- the answer is right for the request, where its files spell these automata
 abbrev pub IsRight : Request → List Automaton → Answer → Type 0
 IsRight (Load trim file) automata (Listing L) = OfOne (λ A. IsForm trim A L) automata
+IsRight (Load trim file) automata (Related dir states pairs) = ⊥
 IsRight (Union trim first second) automata (Listing L) = OfTwo (λ A B. (U : Automaton) × IsUnion A B U × IsForm trim U L) automata
+IsRight (Union trim first second) automata (Related dir states pairs) = ⊥
+IsRight (Isect trim first second) automata (Listing L) = OfTwo (λ A B. (P : Automaton) × IsProduct A B P × IsForm trim P L) automata
+IsRight (Isect trim first second) automata (Related dir states pairs) = ⊥
+IsRight (Sim dir file) automata (Listing L) = ⊥
+IsRight (Sim dir file) automata (Related found states pairs) = OfOne (λ A. (found ≡ dir) × (states ≡ A.states) × IsGreatest dir A pairs) automata
+IsRight (Red file) automata (Listing L) = OfOne (λ A. IsCanonicalQuotient A L) automata
+IsRight (Red file) automata (Related dir states pairs) = ⊥
 
 -- the bytes that are written for an answer
 abbrev pub answer_text : Answer → List ℕ
 answer_text (Listing L) = plain_text L
+answer_text (Related dir states pairs) = relation_text dir states pairs
 
 -- the status of a run that wrote the answer
 abbrev pub status_of : Answer → Status
 status_of (Listing L) = status.Done
+status_of (Related dir states pairs) = status.Done

@@ -1,5 +1,7 @@
 pub mod Request
 pub mod Answer
+pub mod Limits
+pub mod RelationText
 pub mod Files
 pub mod Lines
 pub mod Numbers

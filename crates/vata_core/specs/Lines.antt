@@ -4,6 +4,8 @@ use Rattle.std.specs.declared.option.Option.{Option}
 use Rattle.std.specs.Fmt.{decimal}
 use Rattle.std.specs.Io.KnownBytes.{Appends}
 use Rattle.vata_outside.specs.Outside.{AppendsPrefix, Rose}
+use Rattle.vata_core.specs.declared.measure.Measure.{Measure}
+use Rattle.vata_core.specs.declared.measure.Measure.TheVariants as measure
 use Rattle.timbuk_definitions.specs.Place.{Limit, Names, Rank, Symbols, States, Rules}
 
 -- files are numbered from 1 in a line
@@ -30,8 +32,12 @@ limit_words Rules = codes " rules at "
 unfoldable pub limit_line : ℕ → Limit → ℕ → List ℕ
 limit_line place what at = codes "limit: file " ++ file_number place ++ limit_words what ++ decimal at ++ codes "\n"
 
-unfoldable pub symbols_line : List ℕ
-symbols_line = codes "limit: symbols\n"
+-- the line for each measure of a command
+unfoldable pub measure_line : Measure → List ℕ
+measure_line measure.Symbols = codes "limit: symbols\n"
+measure_line measure.Pairs = codes "limit: pairs\n"
+measure_line measure.Rules = codes "limit: rules\n"
+measure_line measure.Relation = codes "limit: relation\n"
 
 unfoldable pub read_line : ℕ → List ℕ
 read_line place = codes "read fault: file " ++ file_number place ++ codes "\n"

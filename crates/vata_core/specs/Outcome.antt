@@ -1,5 +1,5 @@
 -- How a run ends.
-use Rattle.std.specs.Prelude.{◌≡◌, ◌⊎◌, ◌<◌, ◌≤◌, ⊤, ℕ, List, [], ◌∷◌, length}
+use Rattle.std.specs.Prelude.{◌≡◌, ◌⊎◌, ℕ, List}
 use Rattle.std.specs.declared.option.Option.{Option}
 use Rattle.std.specs.Io.KnownBytes.{Appends}
 use Rattle.vata_outside.specs.Outside.{AppendsPrefix, File, IsMissing, Rose}
@@ -8,8 +8,9 @@ use Rattle.vata_core.specs.Request.{Request, files_of}
 use Rattle.vata_core.specs.Answer.{Answer, IsRight, answer_text, status_of}
 use Rattle.timbuk_definitions.specs.Place.{Limit as Counted}
 use Rattle.vata_core.specs.Files.{AreSpelled, ComesTo, IsOverAt, IsRefused, IsTooLong}
-use Rattle.tree_definitions.specs.Joint.{joint_symbols}
-use Rattle.vata_core.specs.Lines.{bytes_line, limit_line, symbols_line}
+use Rattle.vata_core.specs.Limits.{IsPast}
+use Rattle.vata_core.specs.declared.measure.Measure.{Measure}
+use Rattle.vata_core.specs.Lines.{bytes_line, limit_line, measure_line}
 use Rattle.vata_core.specs.declared.status.Status.{Status}
 use Rattle.vata_core.specs.declared.status.Status.TheVariants.{Done, No, Usage, Undecided, Syntax, Limit, ReadFault, WriteFault, Memory}
 
@@ -62,14 +63,8 @@ pub record FailsToRead (files : Option (List File)) (names : List (List ℕ)) (b
   pub first : ComesTo files names place name
   pub cause : Rose before now ⊎ IsMissing files name
 
--- a file is too long or passes a limit, and those before it spell automata; or the two automata have too many symbols together; and the line that says so
-pub data IsLimited (files : Option (List File)) (names : List (List ℕ)) : List ℕ → Type 0 where
-  TooLong : (place : ℕ) → IsRefused files names IsTooLong place → IsLimited files names (bytes_line place)
-  Over : (place : ℕ) (what : Counted) (at : ℕ) → IsRefused files names (IsOverAt what at) place → IsLimited files names (limit_line place what at)
-  ManySymbols : (A B : Automaton) → AreSpelled files names (A ∷ B ∷ []) → 65535 < length (joint_symbols A.symbols B.symbols) → IsLimited files names symbols_line
-
--- the automata have no more symbols together than a command takes
-abbrev pub AreWithin : List Automaton → Type 0
-AreWithin [] = ⊤
-AreWithin (A ∷ []) = ⊤
-AreWithin (A ∷ B ∷ rest) = length (joint_symbols A.symbols B.symbols) ≤ 65535
+-- a file is too long or passes a limit, and those before it spell automata; or all files spell automata, which are past a limit of the request; and the line that says so
+pub data IsLimited (files : Option (List File)) (request : Request) : List ℕ → Type 0 where
+  TooLong : (place : ℕ) → IsRefused files (files_of request) IsTooLong place → IsLimited files request (bytes_line place)
+  Over : (place : ℕ) (what : Counted) (at : ℕ) → IsRefused files (files_of request) (IsOverAt what at) place → IsLimited files request (limit_line place what at)
+  Past : (As : List Automaton) (what : Measure) → AreSpelled files (files_of request) As → IsPast request As what → IsLimited files request (measure_line what)

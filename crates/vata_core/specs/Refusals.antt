@@ -1,5 +1,5 @@
 -- What is told of files that give no answer.
-use Rattle.std.specs.Prelude.{◌≡◌, ◌⊎◌, ℕ, ◌<◌, List, [], ◌∷◌, length}
+use Rattle.std.specs.Prelude.{◌≡◌, ◌⊎◌, ℕ, ◌<◌, List}
 use Rattle.std.specs.declared.option.Option.{Option}
 use Rattle.vata_outside.specs.Outside.{File, IsMissing, Rose}
 use Rattle.tree_definitions.specs.Automaton.{Automaton}
@@ -7,14 +7,15 @@ use Rattle.witness_trees.specs.Judged.{BadAt, UnknownAt}
 use Rattle.vata_core.specs.CheckRequest.{CheckRequest, all_of, automata_of}
 use Rattle.timbuk_text.specs.Taking.{limit_of}
 use Rattle.vata_core.specs.Files.{AreSpelled, IsBadAt, IsOverAt, IsRefused, IsTooLong, Told}
-use Rattle.tree_definitions.specs.Joint.{joint_symbols}
-use Rattle.vata_core.specs.Lines.{bytes_line, limit_line, memory_line, name_line, read_line, symbols_line, syntax_line}
+use Rattle.vata_core.specs.Limits.{IsFirstOver, IsPast, IsWithin}
+use Rattle.vata_core.specs.Lines.{bytes_line, limit_line, measure_line, memory_line, name_line, read_line, syntax_line}
 use Rattle.vata_core.specs.NoCertificate.{IsNoCertificate, IsReadAs, IsTooLongAt}
-use Rattle.vata_core.specs.Outcome.{AreWithin, FailsToRead, HasAnswer}
+use Rattle.vata_core.specs.Outcome.{FailsToRead, HasAnswer}
 use Rattle.vata_core.specs.Answer.{Answer, answer_text}
-use Rattle.vata_core.specs.Request.{Request, Load, Union}
+use Rattle.vata_core.specs.Request.{Request, Load, Union, Isect, Sim, Red, files_of}
 use Rattle.vata_core.specs.declared.answering.Halt.{Halt}
 use Rattle.vata_core.specs.declared.answering.Halt.TheVariants as halt
+use Rattle.vata_core.specs.declared.measure.Measure.{Measure}
 use Rattle.vata_core.specs.declared.words.Task.{Task}
 use Rattle.vata_core.specs.declared.words.Task.TheVariants as task
 use Rattle.vata_core.specs.declared.judging.Unjudged.{Unjudged}
@@ -63,7 +64,7 @@ IsCause files name before now refusal.Memory = Unit {0}
 
 abbrev pub IsFileHalt : Option (List File) → List ℕ → (before now : ℕ) → ℕ → Halt → Type 0
 IsFileHalt files name before now place (halt.File at r) = (at ≡ place) × IsCause files name before now r
-IsFileHalt files name before now place halt.Symbols = ⊥
+IsFileHalt files name before now place (halt.Past what) = ⊥
 
 -- the file at this place, before which all spell automata, gives none
 abbrev pub IsHaltAt : Option (List File) → List (List ℕ) → (before now : ℕ) → ℕ → Refusal → Type 0
@@ -74,33 +75,41 @@ IsHaltAt files names before now place (refusal.Limit what at) = IsRefused files 
 IsHaltAt files names before now place refusal.Memory = Unit {0}
 
 -- why a run over files of automata has no answer
-abbrev pub IsHalted : Option (List File) → List (List ℕ) → (before now : ℕ) → Halt → Type 0
-IsHalted files names before now (halt.File place r) = IsHaltAt files names before now place r
-IsHalted files names before now halt.Symbols = (A : Automaton) × (B : Automaton) × AreSpelled files names (A ∷ B ∷ []) × (65535 < length (joint_symbols A.symbols B.symbols))
+abbrev pub IsHalted : Option (List File) → Request → (before now : ℕ) → Halt → Type 0
+IsHalted files request before now (halt.File place r) = IsHaltAt files (files_of request) before now place r
+IsHalted files request before now (halt.Past what) = (As : List Automaton) × AreSpelled files (files_of request) As × IsPast request As what
 
--- why two automata have no union
-abbrev pub IsUnionHalt : Automaton → Automaton → Halt → Type 0
-IsUnionHalt A B (halt.File place r) = r ≡ refusal.Memory
-IsUnionHalt A B halt.Symbols = 65535 < length (joint_symbols A.symbols B.symbols)
+-- why files of these names give no automata
+abbrev pub AreUnread : Option (List File) → List (List ℕ) → (before now : ℕ) → Halt → Type 0
+AreUnread files names before now (halt.File place r) = IsHaltAt files names before now place r
+AreUnread files names before now (halt.Past what) = ⊥
+
+-- why an operation on automata has no result, which has these measures over their numbers
+abbrev pub IsOperationHalt : (Measure → Type 0) → Halt → Type 0
+IsOperationHalt Over (halt.File place r) = r ≡ refusal.Memory
+IsOperationHalt Over (halt.Past what) = IsFirstOver Over what
 
 abbrev pub halt_line : Halt → List ℕ
 halt_line (halt.File place r) = refusal_line r place
-halt_line halt.Symbols = symbols_line
+halt_line (halt.Past what) = measure_line what
 
 abbrev pub halt_status : Halt → Status
 halt_status (halt.File place r) = refusal_status r
-halt_status halt.Symbols = status.Limit
+halt_status (halt.Past what) = status.Limit
 
 -- what a task asks for
 abbrev pub request_for : Task → Request
 request_for (task.Load trim file) = Load trim file.now
 request_for (task.Union trim first second) = Union trim first.now second.now
+request_for (task.Isect trim first second) = Isect trim first.now second.now
+request_for (task.Sim dir file) = Sim dir file.now
+request_for (task.Red file) = Red file.now
 
 -- the text is that of a right answer, and its automata keep the limits of a command
 pub record HasText (files : Option (List File)) (request : Request) (bytes : List ℕ) : Type 0 where
   pub answer : Answer
   pub right : HasAnswer files request answer
-  pub within : AreWithin right.automata
+  pub within : IsWithin request right.automata
   pub text : bytes ≡ answer_text answer
 
 -- why the file of that name, which is at a place, gives nothing. The first two hold automata

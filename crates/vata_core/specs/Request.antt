@@ -3,20 +3,28 @@ use Rattle.std.specs.Prelude.{ℕ, Bool, List, [], ◌∷◌, Option, None, Some
 use Rattle.vata_words.specs.Requests.{request_in}
 use Rattle.vata_words.specs.declared.request.Encoding.{Encoding}
 use Rattle.vata_words.specs.declared.request.Encoding.TheVariants.{Expl, Bdd}
+use Rattle.vata_words.specs.declared.request.Dir.{Dir}
 use Rattle.vata_words.specs.declared.request.Request.TheVariants as asks
 use Rattle.vata_words.specs.declared.request.Request.{Request as Asked}
 use Rattle.vata_words.specs.declared.request.WordFault.{WordFault}
 use Rattle.vata_core.specs.Usage.{fault_line, not_built_line}
 
--- what is to be printed: the canonical text of a file's automaton or of the union of two, trimmed or not
+-- what is to be printed: the canonical text of a file's automaton, or of the union or the product of two,
+-- trimmed or not; a file's greatest simulation; or the canonical text of a file's quotient
 pub data Request : Type 0 where
   Load : (trim : Bool) (file : List ℕ) → Request
   Union : (trim : Bool) (first second : List ℕ) → Request
+  Isect : (trim : Bool) (first second : List ℕ) → Request
+  Sim : (dir : Dir) (file : List ℕ) → Request
+  Red : (file : List ℕ) → Request
 
 -- the names of the files that are read, in order
 abbrev pub files_of : Request → List (List ℕ)
 files_of (Load trim file) = file ∷ []
 files_of (Union trim first second) = first ∷ second ∷ []
+files_of (Isect trim first second) = first ∷ second ∷ []
+files_of (Sim dir file) = file ∷ []
+files_of (Red file) = file ∷ []
 
 -- the word at a place
 abbrev pub word_at : List (List ℕ) → ℕ → List ℕ
@@ -31,9 +39,9 @@ when_explicit Bdd request = None
 abbrev pub built : List (List ℕ) → Asked → Option Request
 built words (asks.Load encoding trim file) = when_explicit encoding (Load trim (word_at words file))
 built words (asks.Union encoding trim first second) = when_explicit encoding (Union trim (word_at words first) (word_at words second))
-built words (asks.Isect encoding trim first second) = None
-built words (asks.Sim encoding dir file) = None
-built words (asks.Red encoding file) = None
+built words (asks.Isect encoding trim first second) = when_explicit encoding (Isect trim (word_at words first) (word_at words second))
+built words (asks.Sim encoding dir file) = when_explicit encoding (Sim dir (word_at words file))
+built words (asks.Red encoding file) = when_explicit encoding (Red (word_at words file))
 built words (asks.Incl encoding dir sim budget first second) = None
 built words (asks.Bench encoding n) = None
 

@@ -1,25 +1,34 @@
 //! The answer to a request, from the files that it names.
 
-ghost use Rattle.std.specs.Prelude.{◌≡◌, ◌≤◌, ℕ, true, [], ◌∷◌, IfOk, IfErr, length};
+ghost use Rattle.std.specs.Prelude.{◌≡◌, ◌≤◌, Bool, List, true, [], ◌∷◌, IfOk, IfErr};
 ghost use Rattle.tree_definitions.specs.Automaton.{Automaton};
 ghost use Rattle.tree_definitions.specs.Canonical.{canon};
-ghost use Rattle.tree_definitions.specs.Joint.{joint_symbols};
+ghost use Rattle.tree_definitions.specs.Product.{IsProduct};
 ghost use Rattle.tree_definitions.specs.Union.{IsUnion};
 ghost use Rattle.timbuk_definitions.specs.Place.{IsSmall};
 ghost use Rattle.timbuk_definitions.specs.Printed.{plain_text};
-ghost use Rattle.vata_core.specs.Answer.{IsForm};
-ghost use Rattle.vata_core.specs.Files.{AreSpelled, IsSpelled};
-ghost use Rattle.vata_core.specs.Refusals.{HasText, IsFileHalt, IsHalted, IsUnionHalt, request_for};
-ghost use Rattle.vata_core.specs.Request.{Load, Union, files_of};
+ghost use Rattle.quotient.specs.Merged.{IsCanonicalQuotient};
+ghost use Rattle.vata_core.specs.Answer.{IsForm, IsGreatest};
+ghost use Rattle.vata_core.specs.Files.{IsSpelled};
+ghost use Rattle.vata_core.specs.Limits.{ExceedsProduct, ExceedsQuotient, ExceedsSimulation, ExceedsUnion};
+ghost use Rattle.vata_core.specs.Refusals.{AreUnread, HasText, IsFileHalt, IsHalted, IsOperationHalt, request_for};
+ghost use Rattle.vata_core.specs.RelationText.{relation_text};
+ghost use Rattle.vata_core.specs.Request.{Isect, Load, Red, Sim, Union};
 
 use crate::loading::{Refusal, automaton_of};
+use crate::matrix_text::text_of_relation;
+use crate::measure::Measure;
 use crate::words::Task;
-use bool_ops::union;
+use bit_matrix::Matrix;
+use bool_ops::{OpError, isect, union};
 use explicit_ta::{Explicit, ExplicitPair};
+use quotient::{ReduceError, reduce};
+use simulations::{SimError, down, up};
 use std::alloc::{AllocError, Global};
-use ta_model::{Listed, PairError};
+use ta_model::{Listed, PairError, Table};
 use trim_ops::trim;
 use vata_outside::Files;
+use vata_words::Dir;
 
 /// Why a run has no answer.
 #[derive(Clone, Copy, Debug, PartialEq, Eq)]
@@ -27,8 +36,8 @@ pub enum Halt {
     /// The file at this place, which counts from 0, gives no automaton, or can't be read; or memory ran
     /// out.
     File { place: u8, refusal: Refusal },
-    /// The two automata have too many symbols together.
-    Symbols,
+    /// A count of the command is over its number.
+    Past { what: Measure },
 }
 
 fn no_memory() -> Halt
@@ -81,18 +90,35 @@ fn text_of(alloc: Global, a: Listed, trim: bool) -> Result<Vec<u8>, AllocError>
     Ok(text)
 }
 
+/// The two automata of a command, each in canonical form.
+fn pair_of(alloc: Global, a: &Listed, b: &Listed) -> Result<ExplicitPair, Halt>
+    requires left { IsSmall a.now }
+    requires right { IsSmall b.now }
+    ensures ok { IfOk result (λ p. p ≡ record { left = canon a.now; right = canon b.now }) }
+    ensures few { IfOk result (λ _. ExceedsUnion Measure.Symbols a.now b.now → ⊥) }
+    ensures err { IfErr result (IsOperationHalt (λ what. ExceedsUnion what a.now b.now)) }
+{
+    let _none = Vec::<u8>::new(alloc);
+    match ExplicitPair::from_listed(a, b) {
+        Ok(pair) => Ok(pair),
+        Err(PairError::Symbols) => Err(Halt::Past {
+            what: Measure::Symbols,
+        }),
+        Err(PairError::Memory) => Err(no_memory()),
+    }
+}
+
 /// The union of two automata.
 fn union_of(alloc: Global, a: &Listed, b: &Listed) -> Result<Listed, Halt>
     requires left { IsSmall a.now }
     requires right { IsSmall b.now }
     ensures ok { IfOk result (λ u. (U : Automaton) × IsUnion a.now b.now U × (u ≡ canon U)) }
-    ensures few { IfOk result (λ _. length (joint_symbols a.now.symbols b.now.symbols) ≤ 65535) }
-    ensures err { IfErr result (IsUnionHalt a.now b.now) }
+    ensures within { IfOk result (λ _. (what : Measure) → ExceedsUnion what a.now b.now → ⊥) }
+    ensures err { IfErr result (IsOperationHalt (λ what. ExceedsUnion what a.now b.now)) }
 {
-    let pair = match ExplicitPair::from_listed(a, b) {
+    let pair = match pair_of(alloc, a, b) {
         Ok(pair) => pair,
-        Err(PairError::Symbols) => return Err(Halt::Symbols),
-        Err(PairError::Memory) => return Err(no_memory()),
+        Err(halt) => return Err(halt),
     };
     match union(alloc, &pair) {
         Ok(u) => Ok(u),
@@ -100,11 +126,119 @@ fn union_of(alloc: Global, a: &Listed, b: &Listed) -> Result<Listed, Halt>
     }
 }
 
+/// The product of two automata.
+fn product_of(alloc: Global, a: &Listed, b: &Listed) -> Result<Listed, Halt>
+    requires left { IsSmall a.now }
+    requires right { IsSmall b.now }
+    ensures ok { IfOk result (λ p. (P : Automaton) × IsProduct a.now b.now P × (p ≡ canon P)) }
+    ensures within { IfOk result (λ _. (what : Measure) → ExceedsProduct what a.now b.now → ⊥) }
+    ensures err { IfErr result (IsOperationHalt (λ what. ExceedsProduct what a.now b.now)) }
+{
+    let pair = match pair_of(alloc, a, b) {
+        Ok(pair) => pair,
+        Err(halt) => return Err(halt),
+    };
+    match isect(alloc, &pair) {
+        Ok(p) => Ok(p),
+        Err(OpError::TooManyStates) => Err(Halt::Past {
+            what: Measure::Pairs,
+        }),
+        Err(OpError::TooManyRules) => Err(Halt::Past {
+            what: Measure::Rules,
+        }),
+        Err(OpError::Memory) => Err(no_memory()),
+    }
+}
+
+/// The greatest simulation of this direction.
+fn simulation_of(alloc: Global, dir: Dir, table: &Explicit) -> Result<Matrix, Halt>
+    ensures greatest { IfOk result (IsGreatest dir table.now) }
+    ensures within { IfOk result (λ _. (what : Measure) → ExceedsSimulation what table.now → ⊥) }
+    ensures err { IfErr result (IsOperationHalt (λ what. ExceedsSimulation what table.now)) }
+{
+    let found = match dir {
+        Dir::Up => up(alloc, table),
+        Dir::Down => down(alloc, table),
+    };
+    match found {
+        Ok(m) => Ok(m),
+        Err(SimError::TooLarge) => Err(Halt::Past {
+            what: Measure::Relation,
+        }),
+        Err(SimError::Memory) => Err(no_memory()),
+    }
+}
+
+/// The text of an automaton's greatest simulation of this direction.
+fn simulation_text(alloc: Global, dir: Dir, a: Listed) -> Result<Vec<u8>, Halt>
+    ensures ok { IfOk result (λ text. (m : List (List Bool)) × IsGreatest dir a m × (text.items ≡ relation_text dir a.states m)) }
+    ensures within { IfOk result (λ _. (what : Measure) → ExceedsSimulation what a → ⊥) }
+    ensures err { IfErr result (IsOperationHalt (λ what. ExceedsSimulation what a)) }
+{
+    let Ok(table) = Explicit::of_list(a) else {
+        return Err(no_memory());
+    };
+    let m = match simulation_of(alloc, dir, &table) {
+        Ok(m) => m,
+        Err(halt) => return Err(halt),
+    };
+    let Ok(listed) = table.listed() else {
+        return Err(no_memory());
+    };
+    match text_of_relation(alloc, dir, listed.states(), &m) {
+        Ok(text) => Ok(text),
+        Err(_) => Err(no_memory()),
+    }
+}
+
+/// The quotient of an automaton.
+fn quotient_of(alloc: Global, a: Listed) -> Result<Listed, Halt>
+    ensures ok { IfOk result (IsCanonicalQuotient a) }
+    ensures within { IfOk result (λ _. (what : Measure) → ExceedsQuotient what a → ⊥) }
+    ensures err { IfErr result (IsOperationHalt (λ what. ExceedsQuotient what a)) }
+{
+    let Ok(table) = Explicit::of_list(a) else {
+        return Err(no_memory());
+    };
+    match reduce(alloc, &table) {
+        Ok(reduced) => Ok(reduced),
+        Err(ReduceError::TooLarge) => Err(Halt::Past {
+            what: Measure::Relation,
+        }),
+        Err(ReduceError::Memory) => Err(no_memory()),
+    }
+}
+
+/// The automata of two files.
+fn two_automata<F: Files>(
+    alloc: Global,
+    files: &mut F,
+    first: &str,
+    second: &str,
+) -> Result<(Listed, Listed), Halt>
+    ensures later { F.faults files.old ≤ F.faults files.new }
+    ensures left { IfOk result (λ p. IsSpelled (F.files files.old) first.now p.0) }
+    ensures right { IfOk result (λ p. IsSpelled (F.files files.old) second.now p.1) }
+    ensures small_left { IfOk result (λ p. IsSmall p.0) }
+    ensures small_right { IfOk result (λ p. IsSmall p.1) }
+    ensures err { IfErr result (AreUnread (F.files files.old) (first.now ∷ second.now ∷ []) (F.faults files.old) (F.faults files.new)) }
+{
+    let a = match automaton_at(alloc, files, first, 0) {
+        Ok(a) => a,
+        Err(halt) => return Err(halt),
+    };
+    let b = match automaton_at(alloc, files, second, 1) {
+        Ok(b) => b,
+        Err(halt) => return Err(halt),
+    };
+    Ok((a, b))
+}
+
 /// The text of a file's automaton.
 fn loaded<F: Files>(alloc: Global, files: &mut F, trim: bool, file: &str) -> Result<Vec<u8>, Halt>
     ensures later { F.faults files.old ≤ F.faults files.new }
     ensures ok { IfOk result (λ text. HasText (F.files files.old) (Load trim file.now) text.items) }
-    ensures err { IfErr result (IsHalted (F.files files.old) (file.now ∷ []) (F.faults files.old) (F.faults files.new)) }
+    ensures err { IfErr result (IsHalted (F.files files.old) (Load trim file.now) (F.faults files.old) (F.faults files.new)) }
 {
     let a = match automaton_at(alloc, files, file, 0) {
         Ok(a) => a,
@@ -126,14 +260,10 @@ fn united<F: Files>(
 ) -> Result<Vec<u8>, Halt>
     ensures later { F.faults files.old ≤ F.faults files.new }
     ensures ok { IfOk result (λ text. HasText (F.files files.old) (Union trim first.now second.now) text.items) }
-    ensures err { IfErr result (IsHalted (F.files files.old) (first.now ∷ second.now ∷ []) (F.faults files.old) (F.faults files.new)) }
+    ensures err { IfErr result (IsHalted (F.files files.old) (Union trim first.now second.now) (F.faults files.old) (F.faults files.new)) }
 {
-    let a = match automaton_at(alloc, files, first, 0) {
-        Ok(a) => a,
-        Err(halt) => return Err(halt),
-    };
-    let b = match automaton_at(alloc, files, second, 1) {
-        Ok(b) => b,
+    let (a, b) = match two_automata(alloc, files, first, second) {
+        Ok(both) => both,
         Err(halt) => return Err(halt),
     };
     let u = match union_of(alloc, &a, &b) {
@@ -146,11 +276,73 @@ fn united<F: Files>(
     }
 }
 
+/// The text of the product of two files' automata.
+fn intersected<F: Files>(
+    alloc: Global,
+    files: &mut F,
+    trim: bool,
+    first: &str,
+    second: &str,
+) -> Result<Vec<u8>, Halt>
+    ensures later { F.faults files.old ≤ F.faults files.new }
+    ensures ok { IfOk result (λ text. HasText (F.files files.old) (Isect trim first.now second.now) text.items) }
+    ensures err { IfErr result (IsHalted (F.files files.old) (Isect trim first.now second.now) (F.faults files.old) (F.faults files.new)) }
+{
+    let (a, b) = match two_automata(alloc, files, first, second) {
+        Ok(both) => both,
+        Err(halt) => return Err(halt),
+    };
+    let p = match product_of(alloc, &a, &b) {
+        Ok(p) => p,
+        Err(halt) => return Err(halt),
+    };
+    match text_of(alloc, p, trim) {
+        Ok(text) => Ok(text),
+        Err(_) => Err(no_memory()),
+    }
+}
+
+/// The text of the greatest simulation of a file's automaton.
+fn simulated<F: Files>(alloc: Global, files: &mut F, dir: Dir, file: &str) -> Result<Vec<u8>, Halt>
+    ensures later { F.faults files.old ≤ F.faults files.new }
+    ensures ok { IfOk result (λ text. HasText (F.files files.old) (Sim dir file.now) text.items) }
+    ensures err { IfErr result (IsHalted (F.files files.old) (Sim dir file.now) (F.faults files.old) (F.faults files.new)) }
+{
+    let a = match automaton_at(alloc, files, file, 0) {
+        Ok(a) => a,
+        Err(halt) => return Err(halt),
+    };
+    match simulation_text(alloc, dir, a) {
+        Ok(text) => Ok(text),
+        Err(halt) => Err(halt),
+    }
+}
+
+/// The text of the quotient of a file's automaton.
+fn reduced<F: Files>(alloc: Global, files: &mut F, file: &str) -> Result<Vec<u8>, Halt>
+    ensures later { F.faults files.old ≤ F.faults files.new }
+    ensures ok { IfOk result (λ text. HasText (F.files files.old) (Red file.now) text.items) }
+    ensures err { IfErr result (IsHalted (F.files files.old) (Red file.now) (F.faults files.old) (F.faults files.new)) }
+{
+    let a = match automaton_at(alloc, files, file, 0) {
+        Ok(a) => a,
+        Err(halt) => return Err(halt),
+    };
+    let quotient = match quotient_of(alloc, a) {
+        Ok(quotient) => quotient,
+        Err(halt) => return Err(halt),
+    };
+    match timbuk_text::print(&quotient) {
+        Ok(text) => Ok(text),
+        Err(_) => Err(no_memory()),
+    }
+}
+
 /// The text of the answer to a task.
 pub fn answer_to<F: Files>(alloc: Global, files: &mut F, task: Task) -> Result<Vec<u8>, Halt>
     ensures later { F.faults files.old ≤ F.faults files.new }
     ensures ok { IfOk result (λ text. HasText (F.files files.old) (request_for task.entry) text.items) }
-    ensures err { IfErr result (IsHalted (F.files files.old) (files_of (request_for task.entry)) (F.faults files.old) (F.faults files.new)) }
+    ensures err { IfErr result (IsHalted (F.files files.old) (request_for task.entry) (F.faults files.old) (F.faults files.new)) }
 {
     match task {
         Task::Load { trim, file } => loaded(alloc, files, trim, file),
@@ -159,5 +351,12 @@ pub fn answer_to<F: Files>(alloc: Global, files: &mut F, task: Task) -> Result<V
             first,
             second,
         } => united(alloc, files, trim, first, second),
+        Task::Isect {
+            trim,
+            first,
+            second,
+        } => intersected(alloc, files, trim, first, second),
+        Task::Sim { dir, file } => simulated(alloc, files, dir, file),
+        Task::Red { file } => reduced(alloc, files, file),
     }
 }

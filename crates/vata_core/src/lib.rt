@@ -6,6 +6,8 @@ mod answering;
 mod checking;
 mod judging;
 mod loading;
+mod matrix_text;
+mod measure;
 mod running;
 mod status;
 mod telling;

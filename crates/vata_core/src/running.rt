@@ -10,7 +10,8 @@ ghost use Rattle.timbuk_text.specs.Taking.{limit_of};
 ghost use Rattle.vata_core.specs.Request.{Request, files_of, request_of, usage_line};
 ghost use Rattle.vata_core.specs.Files.{AreSpelled, IsBadAt, IsOverAt, IsRefused, IsSpelled, IsTooLong, Told};
 ghost use Rattle.vata_core.specs.Lines.{Tells, memory_line, read_line, syntax_line, write_line};
-ghost use Rattle.vata_core.specs.Outcome.{Answers, AnswersInPart, AreWithin, FailsToRead, IsAnswered, IsLimited, IsSilent};
+ghost use Rattle.vata_core.specs.Limits.{IsWithin};
+ghost use Rattle.vata_core.specs.Outcome.{Answers, AnswersInPart, FailsToRead, IsAnswered, IsLimited, IsSilent};
 ghost use Rattle.vata_core.specs.Refusals.{halt_status, refusal_status};
 
 use crate::answering::{Halt, answer_to};
@@ -39,7 +40,7 @@ fn halted(halt: Halt) -> Status
 {
     match halt {
         Halt::File { refusal, .. } => status_of(refusal),
-        Halt::Symbols => Status::Limit,
+        Halt::Past { .. } => Status::Limit,
     }
 }
 
@@ -67,7 +68,7 @@ pub fn run<F: Files, K: Sink, E: Sink>(
         (place : ℕ) × (at : ℕ) × IsRefused (F.files files.old) (files_of request) (IsBadAt at) place
         × Tells (E.written diag.old) (E.written diag.new) (E.faults diag.old) (E.faults diag.new) (syntax_line place at)) }
     ensures limit { result ≡ Status.Limit → IfSome (request_of (map string_bytes words.now)) (λ request.
-        (line : List ℕ) × IsLimited (F.files files.old) (files_of request) line
+        (line : List ℕ) × IsLimited (F.files files.old) request line
         × Tells (E.written diag.old) (E.written diag.new) (E.faults diag.old) (E.faults diag.new) line) }
     ensures read { result ≡ Status.ReadFault → IfSome (request_of (map string_bytes words.now)) (λ request.
         (place : ℕ) × FailsToRead (F.files files.old) (files_of request) (F.faults files.old) (F.faults files.new) place
@@ -88,13 +89,13 @@ pub fn run<F: Files, K: Sink, E: Sink>(
         → F.files files.old ≡ Some fs → IsRefused (Some fs) (files_of request) (IsBadAt at) place
         → ¬ Rose (F.faults files.old) (F.faults files.new) → (result ≡ Status.Syntax) ⊎ (result ≡ Status.Memory) }
     ensures limit_due { (request : Request) (fs : List File) (line : List ℕ) → request_of (map string_bytes words.now) ≡ Some request
-        → F.files files.old ≡ Some fs → IsLimited (Some fs) (files_of request) line
+        → F.files files.old ≡ Some fs → IsLimited (Some fs) request line
         → ¬ Rose (F.faults files.old) (F.faults files.new) → (result ≡ Status.Limit) ⊎ (result ≡ Status.Memory) }
 
     // Where each file spells an automaton, no limit is passed and nothing fails, the answer is written,
     // unless memory runs out.
     ensures complete { (request : Request) (fs : List File) (As : List Automaton) → request_of (map string_bytes words.now) ≡ Some request
-        → F.files files.old ≡ Some fs → AreSpelled (Some fs) (files_of request) As → AreWithin As
+        → F.files files.old ≡ Some fs → AreSpelled (Some fs) (files_of request) As → IsWithin request As
         → ¬ Rose (F.faults files.old) (F.faults files.new) → ¬ Rose (K.faults out.old) (K.faults out.new)
         → IsAnswered result ⊎ (result ≡ Status.Memory) }
 {

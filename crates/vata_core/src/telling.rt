@@ -5,13 +5,14 @@ ghost use Rattle.std.specs.Fmt.{decimal};
 ghost use Rattle.std.specs.Io.KnownBytes.{Appends};
 ghost use Rattle.vata_outside.specs.Outside.{AppendsPrefix, Rose};
 ghost use Rattle.timbuk_text.specs.Taking.{limit_of};
-ghost use Rattle.vata_core.specs.Lines.{Tells, bytes_line, limit_line, limit_words, memory_line, name_line, read_line, symbols_line, syntax_line, write_line};
+ghost use Rattle.vata_core.specs.Lines.{Tells, bytes_line, limit_line, limit_words, memory_line, name_line, read_line, measure_line, syntax_line, write_line};
 ghost use Rattle.vata_core.specs.Refusals.{halt_line, reason_line, refusal_line, untaken_line};
 ghost use Rattle.vata_core.specs.Usage.{fault_line, not_built_line};
 
 use crate::answering::Halt;
 use crate::judging::Unjudged;
 use crate::loading::Refusal;
+use crate::measure::Measure;
 use crate::words::Untaken;
 use itoa::Buffer;
 use timbuk_text::Counted;
@@ -218,11 +219,16 @@ fn tell_name<E: Sink>(diag: &mut E, at: u64)
     tell_number(diag, b"name: file 3 at ", at, b"\n");
 }
 
-#[tactic(auto, unfolding(crate::specs::Lines::symbols_line))]
-fn symbols() -> &'static [u8]
-    ensures { result.now ≡ symbols_line }
+#[tactic(auto, unfolding(crate::specs::Lines::measure_line))]
+fn past(what: Measure) -> &'static [u8]
+    ensures { result.now ≡ measure_line what }
 {
-    b"limit: symbols\n".as_slice()
+    match what {
+        Measure::Symbols => b"limit: symbols\n".as_slice(),
+        Measure::Pairs => b"limit: pairs\n".as_slice(),
+        Measure::Rules => b"limit: rules\n".as_slice(),
+        Measure::Relation => b"limit: relation\n".as_slice(),
+    }
 }
 
 /// Tells why a run has no answer.
@@ -231,7 +237,7 @@ pub fn tell_halt<E: Sink>(diag: &mut E, halt: Halt)
 {
     match halt {
         Halt::File { place, refusal } => tell_refusal(diag, place, refusal),
-        Halt::Symbols => tell(diag, symbols()),
+        Halt::Past { what } => tell(diag, past(what)),
     }
 }
 

@@ -1,15 +1,9 @@
 //! Whole runs over files and sinks in memory.
 
-ghost use Rattle.std.specs.Prelude.{◌<◌, IfOk};
-ghost use Rattle.timbuk_definitions.specs.Place.{IsSmall};
+ghost use Rattle.std.specs.Prelude.{◌<◌};
 
-use crate::loading::automaton_of;
 use crate::{Status, check_run, run};
-use bool_ops::isect;
-use explicit_ta::ExplicitPair;
 use std::alloc::{AllocError, Global};
-use ta_model::Listed;
-use timbuk_text::print;
 use vata_outside::{MemFiles, MemSink};
 
 const ALL: &[u8] =
@@ -261,7 +255,8 @@ fn words_that_are_not_taken(rt: HostRuntime) -> Result<(), AllocError> {
         ("-p -p load file", b"usage: repeated 2\n".as_slice()),
         ("bench 0", b"usage: bad setting 2\n".as_slice()),
         ("load -r bdd file", b"usage: not built yet\n".as_slice()),
-        ("sim file", b"usage: not built yet\n".as_slice()),
+        ("sim -r bdd file", b"usage: not built yet\n".as_slice()),
+        ("incl file file", b"usage: not built yet\n".as_slice()),
     ] {
         let ran = run_over(alloc, words, ALL, 1_000, Vec::new(alloc), Vec::new(alloc))?;
         assert_eq!(rt; ran.status, Status::Usage, "{words}");
@@ -533,6 +528,28 @@ const SIBLING: &[u8] =
 const DOUBLE: &[u8] =
     b"Ops a:0 f:2\nAutomaton union\nStates q_1 q_2\nFinal States q_1 q_2\nTransitions\na -> q_1\nf(q_1,q_1) -> q_1\na -> q_2\nf(q_2,q_2) -> q_2\n";
 
+const EVEN: &[u8] =
+    b"Ops a:0 g:1\nAutomaton even\nStates e o\nFinal States e\nTransitions\na -> e\ng(o) -> e\ng(e) -> o\n";
+
+const THREE: &[u8] =
+    b"Ops a:0 g:1\nAutomaton three\nStates t0 t1 t2\nFinal States t0\nTransitions\na -> t0\ng(t0) -> t1\ng(t1) -> t2\ng(t2) -> t0\n";
+
+const SIX: &[u8] =
+    b"Ops a:0 g:1\nAutomaton isect\nStates p0_0 p0_1 p0_2 p1_0 p1_1 p1_2\nFinal States p0_0\nTransitions\na -> p0_0\ng(p1_2) -> p0_0\ng(p1_0) -> p0_1\ng(p1_1) -> p0_2\ng(p0_2) -> p1_0\ng(p0_0) -> p1_1\ng(p0_1) -> p1_2\n";
+
+/// The product with an automaton that accepts nothing.
+const NONE: &[u8] = b"Ops a:0 g:1\nAutomaton isect\nStates\nFinal States\nTransitions\n";
+
+/// Two states that the same leaf reaches, of which one is final.
+const FINAL: &[u8] = b"Ops a:0 Automaton fin States q r Final States r Transitions a -> q a -> r";
+
+/// Two states of which each is below the other.
+const DOUBLED: &[u8] =
+    b"Ops a:0 g:1 Automaton dup States q r s Final States s Transitions a -> q a -> r g(q) -> s g(r) -> s";
+
+const MERGED: &[u8] =
+    b"Ops a:0 g:1\nAutomaton dup\nStates q s\nFinal States s\nTransitions\na -> q\ng(q) -> s\n";
+
 /// Runs over the files `a` and `b`, of which the calls with the given numbers fail.
 fn answer_over(
     alloc: Global,
@@ -578,6 +595,27 @@ fn requests_are_answered(rt: HostRuntime) -> Result<(), AllocError> {
             b"".as_slice(),
             b"syntax: file 2 at 3\n".as_slice(),
         ),
+        ("isect a b", EVEN, THREE, 0, 0, SIX, b"".as_slice()),
+        ("isect -p a b", EVEN, EMPTY, 0, 0, NONE, b"".as_slice()),
+        (
+            "sim -o dir=up a",
+            FINAL,
+            ALL,
+            0,
+            0,
+            b"simulation up 2\nq 11\nr 01\n".as_slice(),
+            b"".as_slice(),
+        ),
+        (
+            "sim a",
+            FINAL,
+            ALL,
+            0,
+            0,
+            b"simulation down 2\nq 11\nr 11\n".as_slice(),
+            b"".as_slice(),
+        ),
+        ("red a", DOUBLED, ALL, 0, 0, MERGED, b"".as_slice()),
         // The fifth call reads the second file.
         (
             "union a b",
@@ -603,50 +641,5 @@ fn requests_are_answered(rt: HostRuntime) -> Result<(), AllocError> {
         assert_eq!(rt; ran.out.bytes(), out, "{words}");
         assert_eq!(rt; ran.diag.bytes(), diag, "{words}");
     }
-    Ok(())
-}
-
-const EVEN: &[u8] =
-    b"Ops a:0 g:1\nAutomaton even\nStates e o\nFinal States e\nTransitions\na -> e\ng(o) -> e\ng(e) -> o\n";
-
-const THREE: &[u8] =
-    b"Ops a:0 g:1\nAutomaton three\nStates t0 t1 t2\nFinal States t0\nTransitions\na -> t0\ng(t0) -> t1\ng(t1) -> t2\ng(t2) -> t0\n";
-
-/// The automaton of a file.
-fn listed_of(alloc: Global, file: &[u8]) -> Result<Listed, AllocError>
-    ensures { IfOk result IsSmall }
-{
-    let mut files = MemFiles::new(alloc, 1_000, Vec::new(alloc));
-    files.add("a", file)?;
-    match automaton_of(alloc, &mut files, "a") {
-        Ok(a) => Ok(a),
-        Err(_) => Err(AllocError),
-    }
-}
-
-/// The text of the product.
-fn product_of(alloc: Global, a: &Listed, b: &Listed) -> Result<Vec<u8>, AllocError>
-    requires left { IsSmall a.now }
-    requires right { IsSmall b.now }
-{
-    let Ok(pair) = ExplicitPair::from_listed(a, b) else {
-        return Err(AllocError);
-    };
-    match isect(alloc, &pair) {
-        Ok(product) => print(&product),
-        Err(_) => Err(AllocError),
-    }
-}
-
-#[test]
-fn the_product_of_two_files(rt: HostRuntime) -> Result<(), AllocError> {
-    let alloc = rt.alloc();
-    let even = listed_of(alloc, EVEN)?;
-    let three = listed_of(alloc, THREE)?;
-    let text = product_of(alloc, &even, &three)?;
-    assert_eq!(rt;
-        text.as_slice(),
-        b"Ops a:0 g:1\nAutomaton isect\nStates p0_0 p0_1 p0_2 p1_0 p1_1 p1_2\nFinal States p0_0\nTransitions\na -> p0_0\ng(p1_2) -> p0_0\ng(p1_0) -> p0_1\ng(p1_1) -> p0_2\ng(p0_2) -> p1_0\ng(p0_0) -> p1_1\ng(p0_1) -> p1_2\n".as_slice()
-    );
     Ok(())
 }

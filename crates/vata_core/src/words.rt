@@ -6,7 +6,7 @@ ghost use Rattle.vata_core.specs.Request.{request_of, usage_line};
 ghost use Rattle.vata_core.specs.Refusals.{request_for, untaken_line};
 ghost use Rattle.vata_core.specs.Usage.{fault_line};
 
-use vata_words::{Encoding, Request, WordFault};
+use vata_words::{Dir, Encoding, Request, WordFault};
 
 /// Why words are not taken.
 #[derive(Clone, Copy, Debug, PartialEq, Eq)]
@@ -27,6 +27,18 @@ pub enum Task<'a> {
         trim: bool,
         first: &'a str,
         second: &'a str,
+    },
+    Isect {
+        trim: bool,
+        first: &'a str,
+        second: &'a str,
+    },
+    Sim {
+        dir: Dir,
+        file: &'a str,
+    },
+    Red {
+        file: &'a str,
     },
 }
 
@@ -59,6 +71,36 @@ pub fn task_of(words: &[String]) -> Result<Task<'_>, Untaken>
             trim,
             first: words[first].as_str(),
             second: words[second].as_str(),
+        }),
+        Ok(
+            Request::Isect {
+                encoding: Encoding::Expl,
+                trim,
+                first,
+                second,
+            },
+        ) => Ok(Task::Isect {
+            trim,
+            first: words[first].as_str(),
+            second: words[second].as_str(),
+        }),
+        Ok(
+            Request::Sim {
+                encoding: Encoding::Expl,
+                dir,
+                file,
+            },
+        ) => Ok(Task::Sim {
+            dir,
+            file: words[file].as_str(),
+        }),
+        Ok(
+            Request::Red {
+                encoding: Encoding::Expl,
+                file,
+            },
+        ) => Ok(Task::Red {
+            file: words[file].as_str(),
         }),
         Ok(_) => Err(Untaken::NotBuilt),
         Err(fault) => Err(Untaken::Fault(fault)),

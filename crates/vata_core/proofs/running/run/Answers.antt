@@ -7,7 +7,7 @@ use Rattle.vata_core.specs.Request.{Request, files_of}
 use Rattle.vata_core.specs.Answer.{answer_text}
 use Rattle.vata_core.specs.Files.{AreSpelled, IsBadAt, IsRefused}
 use Rattle.vata_core.specs.Lines.{Tells, memory_line, read_line, syntax_line}
-use Rattle.vata_core.specs.Outcome.{Answers, AnswersInPart, AreWithin, FailsToRead, IsLimited}
+use Rattle.vata_core.specs.Outcome.{Answers, AnswersInPart, FailsToRead, IsLimited}
 use Rattle.vata_core.specs.Refusals.{HasText, IsHalted, halt_line, halt_status, request_for}
 use Rattle.vata_core.specs.declared.status.Status.TheVariants as status
 use Rattle.vata_core.proofs.Answered.{answers, answers_in_part}
@@ -27,7 +27,7 @@ returns-in-Err-answer_to-clause-syntax g c = λ e.
 
 pub returns-in-Err-answer_to-clause-limit : goal.returns-in-Err-answer_to-clause-limit
 returns-in-Err-answer_to-clause-limit g c = λ e.
-    subst (λ asked. IfSome asked (λ request. (line : List ℕ) × IsLimited (g.F.Files.files c.args.files.now) (files_of request) line × Tells (g.E.Sink.written c.args.diag.now) (g.E.Sink.written c.tell_halt.new.diag) (g.E.Sink.faults c.args.diag.now) (g.E.Sink.faults c.tell_halt.new.diag) line))
+    subst (λ asked. IfSome asked (λ request. (line : List ℕ) × IsLimited (g.F.Files.files c.args.files.now) request line × Tells (g.E.Sink.written c.args.diag.now) (g.E.Sink.written c.tell_halt.new.diag) (g.E.Sink.faults c.args.diag.now) (g.E.Sink.faults c.tell_halt.new.diag) line))
     (sym c.in-Ok.ensures.ok) (halt_line c.in-Err-answer_to.halt, limited _ _ _ _ c.in-Err-answer_to.halt (sym c.halted.ensures ∙ e) c.in-Err-answer_to.ensures.err, c.tell_halt.ensures)
 
 pub returns-in-Err-answer_to-clause-read : goal.returns-in-Err-answer_to-clause-read
@@ -42,22 +42,22 @@ returns-in-Err-answer_to-clause-memory_told g c = λ e. subst (Tells (g.E.Sink.w
 pub returns-in-Err-answer_to-clause-syntax_due : goal.returns-in-Err-answer_to-clause-syntax_due
 returns-in-Err-answer_to-clause-syntax_due g c = λ request fs place at asked told bad calm.
     subst (λ s. (s ≡ status.Syntax) ⊎ (s ≡ status.Memory)) (sym c.halted.ensures)
-    (syntax_due fs (files_of request) place at _ _ c.in-Err-answer_to.halt bad calm
-    (subst (λ files. IsHalted files (files_of request) (g.F.Files.faults c.args.files.now) (g.F.Files.faults c.answer_to.new.files) c.in-Err-answer_to.halt) told
-    (subst (λ r. IsHalted (g.F.Files.files c.args.files.now) (files_of r) (g.F.Files.faults c.args.files.now) (g.F.Files.faults c.answer_to.new.files) c.in-Err-answer_to.halt) (one_request _ _ request c.in-Ok.ensures.ok asked) c.in-Err-answer_to.ensures.err)))
+    (syntax_due fs request place at _ _ c.in-Err-answer_to.halt bad calm
+    (subst (λ files. IsHalted files request (g.F.Files.faults c.args.files.now) (g.F.Files.faults c.answer_to.new.files) c.in-Err-answer_to.halt) told
+    (subst (λ r. IsHalted (g.F.Files.files c.args.files.now) r (g.F.Files.faults c.args.files.now) (g.F.Files.faults c.answer_to.new.files) c.in-Err-answer_to.halt) (one_request _ _ request c.in-Ok.ensures.ok asked) c.in-Err-answer_to.ensures.err)))
 
 pub returns-in-Err-answer_to-clause-limit_due : goal.returns-in-Err-answer_to-clause-limit_due
 returns-in-Err-answer_to-clause-limit_due g c = λ request fs line asked told beyond calm.
     subst (λ s. (s ≡ status.Limit) ⊎ (s ≡ status.Memory)) (sym c.halted.ensures)
-    (limit_due fs (files_of request) line _ _ c.in-Err-answer_to.halt beyond calm
-    (subst (λ files. IsHalted files (files_of request) (g.F.Files.faults c.args.files.now) (g.F.Files.faults c.answer_to.new.files) c.in-Err-answer_to.halt) told
-    (subst (λ r. IsHalted (g.F.Files.files c.args.files.now) (files_of r) (g.F.Files.faults c.args.files.now) (g.F.Files.faults c.answer_to.new.files) c.in-Err-answer_to.halt) (one_request _ _ request c.in-Ok.ensures.ok asked) c.in-Err-answer_to.ensures.err)))
+    (limit_due fs request line _ _ c.in-Err-answer_to.halt beyond calm
+    (subst (λ files. IsHalted files request (g.F.Files.faults c.args.files.now) (g.F.Files.faults c.answer_to.new.files) c.in-Err-answer_to.halt) told
+    (subst (λ r. IsHalted (g.F.Files.files c.args.files.now) r (g.F.Files.faults c.args.files.now) (g.F.Files.faults c.answer_to.new.files) c.in-Err-answer_to.halt) (one_request _ _ request c.in-Ok.ensures.ok asked) c.in-Err-answer_to.ensures.err)))
 
 pub returns-in-Err-answer_to-clause-complete : goal.returns-in-Err-answer_to-clause-complete
 returns-in-Err-answer_to-clause-complete g c = λ request fs As asked told spelled within calm _.
-    inr (c.halted.ensures ∙ nothing_wrong fs (files_of request) _ _ c.in-Err-answer_to.halt As spelled within calm
-    (subst (λ files. IsHalted files (files_of request) (g.F.Files.faults c.args.files.now) (g.F.Files.faults c.answer_to.new.files) c.in-Err-answer_to.halt) told
-    (subst (λ r. IsHalted (g.F.Files.files c.args.files.now) (files_of r) (g.F.Files.faults c.args.files.now) (g.F.Files.faults c.answer_to.new.files) c.in-Err-answer_to.halt) (one_request _ _ request c.in-Ok.ensures.ok asked) c.in-Err-answer_to.ensures.err)))
+    inr (c.halted.ensures ∙ nothing_wrong fs request _ _ c.in-Err-answer_to.halt As spelled within calm
+    (subst (λ files. IsHalted files request (g.F.Files.faults c.args.files.now) (g.F.Files.faults c.answer_to.new.files) c.in-Err-answer_to.halt) told
+    (subst (λ r. IsHalted (g.F.Files.files c.args.files.now) r (g.F.Files.faults c.args.files.now) (g.F.Files.faults c.answer_to.new.files) c.in-Err-answer_to.halt) (one_request _ _ request c.in-Ok.ensures.ok asked) c.in-Err-answer_to.ensures.err)))
 
 pub returns-in-Ok-write_all_of-clause-answered : goal.returns-in-Ok-write_all_of-clause-answered
 returns-in-Ok-write_all_of-clause-answered g c = λ _.
@@ -76,25 +76,25 @@ returns-in-Ok-write_all_of-clause-syntax_due g c = λ request fs place at asked 
     let right : HasText (Some fs) request c.in-Ok-answer_to.text.items =
     subst (λ files. HasText files request c.in-Ok-answer_to.text.items) told
     (subst (λ r. HasText (g.F.Files.files c.args.files.now) r c.in-Ok-answer_to.text.items) (one_request _ _ request c.in-Ok.ensures.ok asked) c.in-Ok-answer_to.ensures.ok) in
-    absurd (bad_or_spelled fs (files_of request) right.right.automata place at right.right.spelled bad)
+    absurd (bad_or_spelled fs request right.right.automata place at right.right.spelled bad)
 
 pub returns-clause-syntax_due : goal.returns-clause-syntax_due
 returns-clause-syntax_due g c = λ request fs place at asked told bad calm.
     let right : HasText (Some fs) request c.in-Ok-answer_to.text.items =
     subst (λ files. HasText files request c.in-Ok-answer_to.text.items) told
     (subst (λ r. HasText (g.F.Files.files c.args.files.now) r c.in-Ok-answer_to.text.items) (one_request _ _ request c.in-Ok.ensures.ok asked) c.in-Ok-answer_to.ensures.ok) in
-    absurd (bad_or_spelled fs (files_of request) right.right.automata place at right.right.spelled bad)
+    absurd (bad_or_spelled fs request right.right.automata place at right.right.spelled bad)
 
 pub returns-in-Ok-write_all_of-clause-limit_due : goal.returns-in-Ok-write_all_of-clause-limit_due
 returns-in-Ok-write_all_of-clause-limit_due g c = λ request fs line asked told beyond calm.
     let right : HasText (Some fs) request c.in-Ok-answer_to.text.items =
     subst (λ files. HasText files request c.in-Ok-answer_to.text.items) told
     (subst (λ r. HasText (g.F.Files.files c.args.files.now) r c.in-Ok-answer_to.text.items) (one_request _ _ request c.in-Ok.ensures.ok asked) c.in-Ok-answer_to.ensures.ok) in
-    absurd (limited_or_spelled fs (files_of request) right.right.automata line right.right.spelled right.within beyond)
+    absurd (limited_or_spelled fs request right.right.automata line right.right.spelled right.within beyond)
 
 pub returns-clause-limit_due : goal.returns-clause-limit_due
 returns-clause-limit_due g c = λ request fs line asked told beyond calm.
     let right : HasText (Some fs) request c.in-Ok-answer_to.text.items =
     subst (λ files. HasText files request c.in-Ok-answer_to.text.items) told
     (subst (λ r. HasText (g.F.Files.files c.args.files.now) r c.in-Ok-answer_to.text.items) (one_request _ _ request c.in-Ok.ensures.ok asked) c.in-Ok-answer_to.ensures.ok) in
-    absurd (limited_or_spelled fs (files_of request) right.right.automata line right.right.spelled right.within beyond)
+    absurd (limited_or_spelled fs request right.right.automata line right.right.spelled right.within beyond)
