@@ -1,0 +1,48 @@
+-- From places of covering pairs to certificates, and rules without children.
+use Rattle.std.proofs.Common.{◌≡◌, ◌≢◌, ℕ, ◌+◌, List, [], ◌∷◌, length, refl, subst, arith, ⊎_elim}
+use Rattle.std.specs.Prelude.{All}
+use Rattle.std.proofs.lemmas.Bool.{cases_eq}
+use Rattle.std.proofs.lemmas.List.Elements.{All-contains}
+use Rattle.std.proofs.lemmas.Option.{slice_get_within}
+use Rattle.tree_definitions.specs.Tree.{Symbol}
+use Rattle.tree_definitions.specs.Automaton.{Automaton, Rule, IsLabel, IsRule, HasRule}
+use Rattle.tree_definitions.specs.Canonical.{canon}
+use Rattle.tree_definitions.specs.Cover.{Pair, Post}
+use Rattle.tree_definitions.specs.Relation.{Relation, Places, Row, IsAt}
+use Rattle.tree_definitions.specs.UpCert.{IsCoveredUp, AreListed}
+use Rattle.tree_definitions.proofs.Members.{at_unique, contains_at, place_of}
+use Rattle.trim_ops.proofs.SameRules.{rule_in}
+use Rattle.up_conditions.specs.Listed.{IsCoveredElsewhere}
+use Rattle.up_conditions.specs.Covering.{AllBefore, IsLeafCovered}
+
+module _ (RA RB : Relation) (X : List Pair) (p : ℕ) (P Q : Places) (to : (s : ℕ) → P s → Q s) where
+  pub covered_up : (skip : ℕ) → IsCoveredElsewhere RA RB X skip p P → IsCoveredUp RA RB X p Q
+  covered_up skip h = (h.1, contains_at X h.0 h.1 h.3, record { state = h.4.state; set = λ s m. let k = h.4.set s m in (k.0, to k.0 k.1, k.2) })
+
+  pub up_covered : IsCoveredUp RA RB X p P → IsCoveredElsewhere RA RB X (length X) p Q
+  up_covered h =
+      let k = place_of X h.0 h.1 in
+      let w = slice_get_within X k.0 h.0 k.1 in
+      (k.0, h.0, (λ e. omega (arith, w, e)), k.1, record { state = h.2.state; set = λ s m. let n = h.2.set s m in (n.0, to n.0 n.1, n.2) })
+
+pub no_sets : (X : List Pair) (sets : List Row) → AreListed X [] sets → sets ≡ []
+no_sets X [] h = refl
+no_sets X (s ∷ ss) h = absurd h
+
+pub leaf_apart : (P : Type 0) (kids : List ℕ) → ¬ (kids ≡ [] → P) → (kids ≡ []) × ¬ P
+leaf_apart P [] n = (refl, λ p. n (λ e. p))
+leaf_apart P (q ∷ qs) n = absurd (n (λ e. absurd cc))
+
+pub before_next : {Y : Type 0} (xs : List Y) (Kind : Y → Type 0) (i : ℕ) (x : Y) → AllBefore xs Kind i → IsAt xs i x → Kind x → AllBefore xs Kind (i + 1)
+before_next xs Kind i x all at h j y l jat = ⊎_elim
+    (λ (e : j ≡ i). subst Kind (at_unique xs i x y at (subst (λ k. IsAt xs k y) e jat)) h)
+    (λ (d : j ≢ i). all j y (omega arith) jat)
+    (cases_eq j i)
+
+pub leaves_covered : (A B : Automaton) (RA RB : Relation) (X : List Pair) → All (IsLeafCovered A.symbols B RA RB X) (canon A).rules
+    → (a : Symbol) (p : ℕ) → HasRule A a [] p → IsCoveredUp RA RB X p (Post B a [])
+unfolding IsRule IsLabel
+leaves_covered A B RA RB X all a p has =
+    let h = rule_in A a [] p has in
+    let line : Rule = record { symbol = h.1.0; kids = []; parent = p } in
+    All-contains (IsLeafCovered A.symbols B RA RB X) (canon A).rules line all (contains_at (canon A).rules h.0 line h.1.2) refl a h.1.1 [] tt

@@ -1,0 +1,7 @@
+pub mod Firsts
+pub mod Grouped
+pub mod Others
+pub mod Rejecting
+pub mod Simulating
+pub mod Stepped
+pub mod Covered

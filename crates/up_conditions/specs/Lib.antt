@@ -1,0 +1,5 @@
+pub mod Places
+pub mod Listed
+pub mod Exchanging
+pub mod Stepping
+pub mod Covering

@@ -1,0 +1,62 @@
+//! Which pairs others cover.
+
+ghost use Rattle.std.specs.Prelude.{◌≡◌, ◌≢◌, ◌<◌, AllPairs, Contains, IfNone, IfOk, IfSome, length};
+ghost use Rattle.tree_definitions.specs.Cover.{Pair, CoversUp};
+ghost use Rattle.tree_definitions.specs.Relation.{Has, Holds};
+ghost use Rattle.up_conditions.specs.Listed.{AreByState, AreWithin, IsCovered};
+ghost use Rattle.up_conditions.specs.Places.{IsFirst, IsNth};
+
+use crate::by_state::{is_covered, pairs_by_state};
+use crate::pair::Pair;
+use bit_matrix::Matrix;
+use std::alloc::{AllocError, Global};
+use trim_ops::RuleIndex;
+
+/// The first pair that another one covers.
+fn first_by_index(
+    left: &Matrix,
+    right: &Matrix,
+    pairs: &[Pair],
+    by_state: &RuleIndex,
+) -> Option<u32>
+    requires within { AreWithin (length left.now) (length right.now) pairs.now }
+    requires few { length pairs.now < 4294967295 }
+    requires distinct { AllPairs ◌≢◌ pairs.now }
+    requires by_state { AreByState pairs.now by_state.now }
+    requires index { length by_state.now ≡ length left.now }
+    ensures none { IfNone result ((x y : Pair) → Contains pairs.now x → Contains pairs.now y → x ≢ y → CoversUp (Holds left.now) (Holds right.now) x y.state (Has y.set) → ⊥) }
+    ensures some { IfSome result (IsFirst (IsNth pairs.now (IsCovered (Holds left.now) (Holds right.now) pairs.now))) }
+{
+    for at in 0..pairs.len() {
+        let pair = &pairs[at];
+        if is_covered(
+            left,
+            right,
+            pairs,
+            by_state,
+            pair.state as usize,
+            &pair.set,
+            at,
+        ) {
+            return Some(at as u32 + 1);
+        }
+    }
+    None
+}
+
+/// The place of the first pair that another one covers, by relations of A and of B.
+pub fn first_covered(
+    alloc: Global,
+    left: &Matrix,
+    right: &Matrix,
+    pairs: &[Pair],
+) -> Result<Option<u32>, AllocError>
+    requires within { AreWithin (length left.now) (length right.now) pairs.now }
+    requires few { length pairs.now < 4294967295 }
+    requires distinct { AllPairs ◌≢◌ pairs.now }
+    ensures none { IfOk result (λ first. IfNone first ((x y : Pair) → Contains pairs.now x → Contains pairs.now y → x ≢ y → CoversUp (Holds left.now) (Holds right.now) x y.state (Has y.set) → ⊥)) }
+    ensures some { IfOk result (λ first. IfSome first (IsFirst (IsNth pairs.now (IsCovered (Holds left.now) (Holds right.now) pairs.now)))) }
+{
+    let by_state = pairs_by_state(alloc, pairs, left.size())?;
+    Ok(first_by_index(left, right, pairs, &by_state))
+}

@@ -1,0 +1,22 @@
+//! The conditions of an upward certificate, each judged by a call of its own.
+//!
+//! A certificate lists pairs of a state of A and a set of states of B. What fails is told by its
+//! place, counted from 1.
+#![tactic(auto)]
+
+mod apart;
+mod by_state;
+mod covering;
+mod finals;
+mod pair;
+mod stepping;
+#[cfg(test)]
+mod tests;
+mod upward;
+
+pub use apart::first_covered;
+pub use covering::first_uncovered_leaf;
+pub use finals::first_rejecting;
+pub use pair::Pair;
+pub use stepping::{post, rules_by_symbol};
+pub use upward::is_up_simulation;
