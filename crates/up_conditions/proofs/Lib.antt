@@ -1,4 +1,3 @@
-pub mod Firsts
 pub mod Grouped
 pub mod Others
 pub mod Rejecting

@@ -4,14 +4,6 @@ use Rattle.tree_definitions.specs.Automaton.{Rule}
 use Rattle.tree_definitions.specs.Relation.{Relation, Places, Row, Has, IsAt, Below}
 use Rattle.tree_definitions.specs.Cover.{Pair, CoversUp}
 
--- the state is below n, and the set has m places
-pub record IsWithin (n m : ℕ) (pair : Pair) : Type 0 where
-  pub state : pair.state < n
-  pub set : length pair.set ≡ m
-
-abbrev pub AreWithin : ℕ → ℕ → List Pair → Type 0
-AreWithin n m pairs = All (IsWithin n m) pairs
-
 -- the first row has the pair's state, and the second no member of its set
 pub record RejectsBy (left right : Row) (pair : Pair) : Type 0 where
   pub final : Has left pair.state

@@ -3,11 +3,12 @@
 ghost use Rattle.std.specs.Prelude.{◌≡◌, ◌≢◌, ◌<◌, AllPairs, Contains, IfNone, IfOk, IfSome, length};
 ghost use Rattle.tree_definitions.specs.Cover.{Pair, CoversUp};
 ghost use Rattle.tree_definitions.specs.Relation.{Has, Holds};
-ghost use Rattle.up_conditions.specs.Listed.{AreByState, AreWithin, IsCovered};
-ghost use Rattle.up_conditions.specs.Places.{IsFirst, IsNth};
+ghost use Rattle.up_conditions.specs.Listed.{AreByState, IsCovered};
+ghost use Rattle.listed_pairs.specs.Within.{AreWithin};
+ghost use Rattle.listed_pairs.specs.Places.{IsFirst, IsNth};
 
 use crate::by_state::{is_covered, pairs_by_state};
-use crate::pair::Pair;
+use listed_pairs::Pair;
 use bit_matrix::Matrix;
 use std::alloc::{AllocError, Global};
 use trim_ops::RuleIndex;

@@ -3,9 +3,10 @@
 ghost use Rattle.std.specs.Prelude.{◌≡◌, ◌≢◌, ◌<◌, ◌↔◌, ℕ, All, Contains, IsTrue, IfOk, length};
 ghost use Rattle.tree_definitions.specs.Cover.{Pair};
 ghost use Rattle.tree_definitions.specs.Relation.{Below, Has, Holds, IsAt};
-ghost use Rattle.up_conditions.specs.Listed.{AreByState, AreWithin, IsCoveredElsewhere, IsCoveredIn};
+ghost use Rattle.up_conditions.specs.Listed.{AreByState, IsCoveredElsewhere, IsCoveredIn};
+ghost use Rattle.listed_pairs.specs.Within.{AreWithin};
 
-use crate::pair::Pair;
+use listed_pairs::Pair;
 use bit_matrix::Matrix;
 use bit_rows::Row;
 use std::alloc::{AllocError, Global};

@@ -9,12 +9,13 @@ ghost use Rattle.tree_definitions.specs.Relation.{Holds, Row};
 ghost use Rattle.tree_definitions.specs.UpCert.{IsCoveredUp};
 ghost use Rattle.trim_ops.specs.Marking as marking;
 ghost use Rattle.up_conditions.specs.Covering.{AreLabelled, IsLeafCovered, IsUncoveredLeaf};
-ghost use Rattle.up_conditions.specs.Listed.{AreBySymbol, AreByState, AreWithin};
-ghost use Rattle.up_conditions.specs.Places.{IsFirst, IsNth};
+ghost use Rattle.up_conditions.specs.Listed.{AreBySymbol, AreByState};
+ghost use Rattle.listed_pairs.specs.Within.{AreWithin};
+ghost use Rattle.listed_pairs.specs.Places.{IsFirst, IsNth};
 ghost use Rattle.up_conditions.specs.Stepping.{AreSets};
 
 use crate::by_state::{is_covered, pairs_by_state};
-use crate::pair::Pair;
+use listed_pairs::Pair;
 use crate::stepping::{post, rules_by_symbol};
 use bit_matrix::Matrix;
 use ranked_alphabet::Alphabet;

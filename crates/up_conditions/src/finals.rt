@@ -3,10 +3,11 @@
 ghost use Rattle.std.specs.Prelude.{◌≡◌, ◌<◌, ◌≤◌, ◌↔◌, ℕ, All, Contains, IsTrue, IfNone, IfOk, IfSome, length};
 ghost use Rattle.tree_definitions.specs.Cover.{Pair, FitsPair, Rejects};
 ghost use Rattle.tree_definitions.specs.Relation.{Has};
-ghost use Rattle.up_conditions.specs.Places.{IsFirst, IsNth};
-ghost use Rattle.up_conditions.specs.Listed.{AreWithin, RejectsBy};
+ghost use Rattle.listed_pairs.specs.Places.{IsFirst, IsNth};
+ghost use Rattle.up_conditions.specs.Listed.{RejectsBy};
+ghost use Rattle.listed_pairs.specs.Within.{AreWithin};
 
-use crate::pair::Pair;
+use listed_pairs::Pair;
 use bit_rows::Row;
 use std::alloc::{AllocError, Global};
 use ta_model::Listed;

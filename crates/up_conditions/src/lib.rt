@@ -8,7 +8,6 @@ mod apart;
 mod by_state;
 mod covering;
 mod finals;
-mod pair;
 mod stepping;
 #[cfg(test)]
 mod tests;
@@ -17,6 +16,5 @@ mod upward;
 pub use apart::first_covered;
 pub use covering::first_uncovered_leaf;
 pub use finals::first_rejecting;
-pub use pair::Pair;
 pub use stepping::{post, rules_by_symbol};
 pub use upward::is_up_simulation;

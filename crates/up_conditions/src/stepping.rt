@@ -8,7 +8,7 @@ ghost use Rattle.trim_ops.specs.Marking.{AreWithin, IsWithin};
 ghost use Rattle.up_conditions.specs.Listed.{AreBySymbol};
 ghost use Rattle.up_conditions.specs.Stepping.{AreInSets, AreSets, IsParentAt};
 
-use crate::pair::Pair;
+use listed_pairs::Pair;
 use bit_rows::Row;
 use ranked_alphabet::Alphabet;
 use std::alloc::{AllocError, Global};

@@ -11,7 +11,7 @@ use Rattle.tree_definitions.specs.Relation.{Holds}
 use Rattle.tree_definitions.specs.UpCert.{IsCoveredUp}
 use Rattle.up_conditions.specs.Covering.{AreLabelled, IsLeafCovered}
 use Rattle.up_conditions.proofs.Covered.{leaves_covered}
-use Rattle.up_conditions.proofs.Firsts.{IfNone_then}
+use Rattle.listed_pairs.proofs.Firsts.{IfNone_then}
 use Rattle.up_conditions.proofs.covering.first_uncovered_leaf.Goals as goal
 
 pub first_leaf-requires-clause-labels : goal.first_leaf-requires-clause-labels

@@ -5,9 +5,9 @@ use Rattle.tree_definitions.specs.Automaton.{IsFinal}
 use Rattle.tree_definitions.specs.Cover.{Rejects}
 use Rattle.tree_definitions.specs.Relation.{Has}
 use Rattle.up_conditions.specs.Listed.{RejectsBy}
-use Rattle.up_conditions.specs.Places.{IsNth}
+use Rattle.listed_pairs.specs.Places.{IsNth}
 use Rattle.up_conditions.proofs.Rejecting.{rejects_by_rows, rows_reject}
-use Rattle.up_conditions.proofs.Firsts.{IfNone_then, first_weaker, nth_weaker}
+use Rattle.listed_pairs.proofs.Firsts.{IfNone_then, first_weaker, nth_weaker}
 use Rattle.up_conditions.proofs.finals.first_rejecting.Goals as goal
 
 pub returns-clause-none : goal.returns-clause-none

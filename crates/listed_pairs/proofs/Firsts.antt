@@ -5,7 +5,7 @@ use Rattle.std.proofs.lemmas.Bool.{cases_eq}
 use Rattle.std.proofs.lemmas.Option.{slice_get_within}
 use Rattle.tree_definitions.specs.Relation.{IsAt}
 use Rattle.tree_definitions.proofs.Members.{at_unique, place_of}
-use Rattle.up_conditions.specs.Places.{IsNth, IsFirst, NoneBefore}
+use Rattle.listed_pairs.specs.Places.{IsNth, IsFirst, NoneBefore}
 
 module _ {X : Type 0} (xs : List X) (Kind : X → Type 0) where
   pub none_at_start : NoneBefore xs Kind 0
