@@ -23,6 +23,12 @@ leader_is m t q f old new row turned e above below turns meet first = record {
   least = λ r s. first.least r (omega arith) ((meet r).1 (subst (λ x. Has x r) (sym e) ((above r).1 s.1), (below r).1 ((turns q r).1 s.0)));
 }
 
+-- a place that is related to itself is in its class
+pub class_has_it : (m t : Matrix) (q : ℕ) (old new row turned : Row) → old ≡ row → ((s : ℕ) → Has row s ↔ Holds m q s) → ((s : ℕ) → Has turned s ↔ Holds t q s)
+    → ((i j : ℕ) → Holds t i j ↔ Holds m j i) → ((s : ℕ) → Has new s ↔ (Has old s × Has turned s)) → Holds m q q → Has new q
+class_has_it m t q old new row turned e above below turns meet h =
+    (meet q).1 (subst (λ x. Has x q) (sym e) ((above q).1 h), (below q).1 ((turns q q).1 h))
+
 pub leaders_none : (D : Relation) → AreLeaders D 0 []
 leaders_none D = record { long = refl; each = λ q f at. absurd cc }
 

@@ -12,6 +12,7 @@ fn leader(matrix: &Matrix, turned: &Matrix, q: usize) -> Result<u32, AllocError>
     requires place { q < length matrix.now }
     requires sizes { length turned.now ≡ length matrix.now }
     requires turned { (i j : ℕ) → Holds turned.now i j ↔ Holds matrix.now j i }
+    requires itself { Holds matrix.now q q }
     ensures { IfOk result (IsLeader (Holds matrix.now) q) }
 {
     let _size = matrix.size();
@@ -19,12 +20,13 @@ fn leader(matrix: &Matrix, turned: &Matrix, q: usize) -> Result<u32, AllocError>
     turned.row(q).and_into(&mut class);
     match class.first() {
         Some(first) => Ok(first as u32),
-        None => Err(AllocError),
+        None => unreachable!(),
     }
 }
 
 /// For each place the least in its class.
 pub(crate) fn leaders(alloc: Global, matrix: &Matrix) -> Result<Vec<u32>, AllocError>
+    requires reflexive { (q : ℕ) → q < length matrix.now → Holds matrix.now q q }
     ensures leaders { IfOk result (λ v. AreLeaders (Holds matrix.now) (length matrix.now) v.items) }
 {
     let turned = matrix.transpose()?;

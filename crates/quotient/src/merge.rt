@@ -90,6 +90,7 @@ fn rules_once(rules: Vec<Rule>) -> Result<Vec<Rule>, AllocError>
 /// The automaton with the states of each class merged, in canonical form.
 pub(crate) fn collapse(alloc: Global, a: &Listed, matrix: &Matrix) -> Result<Listed, AllocError>
     requires size { length matrix.now ≡ length a.now.states }
+    requires reflexive { (q : ℕ) → q < length matrix.now → Holds matrix.now q q }
     requires transitive { IsTransitive (Holds matrix.now) }
     ensures automaton { IfOk result (IsCollapse a.now (Holds matrix.now)) }
     ensures listed { IfOk result IsListed }

@@ -15,7 +15,8 @@ use Rattle.trim_ops.proofs.Bridge.{has_line}
 use Rattle.trim_ops.proofs.SameRules.{rule_in, rule_out}
 use Rattle.simulations.specs.DownCases.{IsDownBy, GreatestBy}
 use Rattle.simulations.specs.Relations.{IsGreatestUp}
-use Rattle.simulations.specs.UpCases.{IsUpBy, KeepsFinals, GreatestUpBy}
+use Rattle.child_exchange.specs.Exchanging.{IsUpBy}
+use Rattle.simulations.specs.UpCases.{KeepsFinals, GreatestUpBy}
 
 -- one symbol stands at one place
 label_once : (A : Automaton) → IsAutomaton A → (j k : ℕ) (a : Symbol) → IsLabel A j a → IsLabel A k a → j ≡ k

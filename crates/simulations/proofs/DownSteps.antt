@@ -32,12 +32,6 @@ answered_then rules Early Late D a b c one two fewer fewer2 split rule r d h = e
 pub answered_past : (rules : List Rule) (Early D : Cases) (a b : Matrix) → AreAnswered rules Early a b → ((rule : Rule) (r : ℕ) → D rule r → Early rule r) → AreAnswered rules D a b
 answered_past rules Early D a b one split rule r d h = one rule r (split rule r d) h
 
-pub all_zip_from : (R : Relation) (xs ys : List ℕ) → length xs ≡ length ys → ((i x y : ℕ) → IsAt xs i x → IsAt ys i y → R x y) → AllZip R xs ys
-all_zip_from R [] [] e h = tt
-all_zip_from R [] (y ∷ ys) e h = absurd (omega (arith, e))
-all_zip_from R (x ∷ xs) [] e h = absurd (omega (arith, e))
-all_zip_from R (x ∷ xs) (y ∷ ys) e h = (h 0 x y refl refl, all_zip_from R xs ys (omega (arith, e)) (λ i u v p q. h (suc i) u v p q))
-
 -- two rows in R place by place are in S place by place, but for a place with a pair that S lacks
 all_zip_without : (R S : Relation) (q : ℕ) (lost : Row) → ((x y : ℕ) → R x y → S x y ⊎ ((x ≡ q) × Has lost y)) → (xs ys : List ℕ) → AllZip R xs ys
     → AllZip S xs ys ⊎ ((i y : ℕ) × IsAt xs i q × IsAt ys i y × Has lost y)

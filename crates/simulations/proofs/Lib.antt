@@ -3,7 +3,6 @@ pub mod ClearingSteps
 pub mod DownSteps
 pub mod Bridge
 pub mod TwoStates
-pub mod Exchanges
 pub mod UpSteps
 pub mod FinalSteps
 pub mod SymbolSteps

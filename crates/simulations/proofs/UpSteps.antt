@@ -12,8 +12,9 @@ use Rattle.tree_definitions.proofs.Members.{at_unique, at_within, place_of, cont
 use Rattle.bit_rows.specs.Rows.{IsLeastFrom, IsEmptyFrom}
 use Rattle.trim_ops.specs.Marking.{AreWithin, IsWithin, IsByParent}
 use Rattle.simulations.specs.Clearing.{IsPartOf, Clearing, Catches, Seen}
-use Rattle.simulations.specs.UpCases.{IsExchanged, IsUpMatrix, KeepsFinals, GreatestUpBy, UpCases, AreExchanged, IsUpCase, IsUpCaseBelow, IsUpCaseAt, IsUpCaseOf, IsExchangeOf, IsUpUnder, AreUpUnder, RestsOnParents, IsUpSettled}
-use Rattle.simulations.proofs.Exchanges.{set_itself}
+use Rattle.child_exchange.specs.Exchanging.{IsExchanged}
+use Rattle.simulations.specs.UpCases.{IsUpMatrix, KeepsFinals, GreatestUpBy, UpCases, AreExchanged, IsUpCase, IsUpCaseBelow, IsUpCaseAt, IsUpCaseOf, IsExchangeOf, IsUpUnder, AreUpUnder, RestsOnParents, IsUpSettled}
+use Rattle.child_exchange.proofs.Exchanges.{set_itself}
 
 pub exchanged_weaker : (rules : List Rule) (R S : Relation) → ((x y : ℕ) → R x y → S x y) → (rule : Rule) (p r : ℕ) → IsExchanged rules R rule p r → IsExchanged rules S rule p r
 exchanged_weaker rules R S f rule p r h = (h.0, h.1, h.2, h.3, h.4, f rule.parent h.1.parent h.5)

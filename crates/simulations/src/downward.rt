@@ -1,6 +1,6 @@
 //! The greatest downward simulation of a list of rules.
 
-ghost use Rattle.std.specs.Prelude.{◌≡◌, ◌<◌, ◌↔◌, ◌^◌, ℕ, List, IsTrue, IfOk, All, length};
+ghost use Rattle.std.specs.Prelude.{◌≡◌, ◌<◌, ◌≤◌, ◌↔◌, ◌^◌, ℕ, List, IsTrue, IfOk, All, length};
 ghost use Rattle.std.specs.List.{AllZip};
 ghost use Rattle.tree_definitions.specs.Relation.{Matrix, Holds, IsAt, IsSquare};
 ghost use Rattle.trim_ops.specs.Marking.{AreWithin, IsWithin, IsByChild, IsByParent};
@@ -241,6 +241,7 @@ pub(crate) fn greatest_down(
     requires by_child_size { length by_child.now ≡ length to.now }
     requires to { IsByParent rules.now to.now }
     requires symbols { All (λ rule. rule.symbol < symbols) rules.now }
+    requires few { length to.now ≤ 20000 }
     ensures square { IfOk result (λ sim. IsSquare (length to.now) sim) }
     ensures pairs { IfOk result (λ sim. (q r : ℕ) → Holds sim q r ↔ GreatestBy (length to.now) rules.now q r) }
 {

@@ -1,22 +1,24 @@
 //! Rows of a relation that lost places.
 
-ghost use Rattle.std.specs.Prelude.{◌≡◌, ◌<◌, ℕ, IsNone, IfOk, IfSome, length};
+ghost use Rattle.std.specs.Prelude.{◌≡◌, ◌<◌, ◌≤◌, ℕ, IsNone, IfOk, IfSome, length};
 ghost use Rattle.tree_definitions.specs.Relation.{Has, Holds, IsSquare};
 ghost use Rattle.bit_rows.specs.Rows.{IsEmptyFrom};
 ghost use Rattle.simulations.specs.Clearing.{Catches};
 
-use bit_matrix::Matrix;
+use bit_matrix::{Matrix, MatrixError};
 use bit_rows::Row;
 use std::alloc::{AllocError, Global};
 
 /// The relation in which each two of n places are related.
 pub(crate) fn full(alloc: Global, n: usize) -> Result<Matrix, AllocError>
+    requires { n ≤ 20000 }
     ensures square { IfOk result (λ m. IsSquare n m) }
     ensures pairs { IfOk result (λ m. (i j : ℕ) → i < n → j < n → Holds m i j) }
 {
     match Matrix::full(alloc, n) {
         Ok(m) => Ok(m),
-        Err(_) => Err(AllocError),
+        Err(MatrixError::Memory) => Err(AllocError),
+        Err(MatrixError::TooLarge) => unreachable!(),
     }
 }
 

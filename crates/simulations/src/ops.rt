@@ -37,6 +37,7 @@ impl From<AllocError> for SimError {
 
 /// The greatest downward simulation.
 fn down_of(alloc: Global, a: &Listed) -> Result<Matrix, AllocError>
+    requires { length a.now.states ≤ 20000 }
     ensures { IfOk result (λ m. IsGreatestDown a.now m) }
 {
     let rules = a.rules();
@@ -50,6 +51,7 @@ fn down_of(alloc: Global, a: &Listed) -> Result<Matrix, AllocError>
 
 /// The greatest upward simulation.
 fn up_of(alloc: Global, a: &Listed) -> Result<Matrix, AllocError>
+    requires { length a.now.states ≤ 20000 }
     ensures { IfOk result (λ m. IsGreatestUp a.now m) }
 {
     let rules = a.rules();

@@ -1,82 +1,18 @@
 //! The greatest upward simulation of a list of rules.
 
-ghost use Rattle.std.specs.Prelude.{◌≡◌, ◌≢◌, ◌<◌, ◌↔◌, ℕ, List, Some, IsTrue, IfOk, IfSome, All, Contains, length, slice_set};
+ghost use Rattle.std.specs.Prelude.{◌≡◌, ◌<◌, ◌≤◌, ◌↔◌, ℕ, IfOk, All, Contains, length};
 ghost use Rattle.tree_definitions.specs.Relation.{Matrix, Has, Holds, IsAt, IsSquare};
 ghost use Rattle.trim_ops.specs.Marking.{AreWithin, IsWithin, IsByChild, IsByParent};
 ghost use Rattle.simulations.specs.Clearing.{IsPartOf, IsMarked, Clearing, Seen};
-ghost use Rattle.simulations.specs.UpCases.{IsExchanged, IsUpMatrix, KeepsFinals, ClearsOutside, GreatestUpBy, AreExchanged, IsUpCase, IsUpCaseBelow, IsUpCaseAt, IsUpCaseOf, IsExchangeOf, IsUpUnder, AreUpUnder, RestsOnParents, IsUpSettled};
+ghost use Rattle.simulations.specs.UpCases.{IsUpMatrix, KeepsFinals, ClearsOutside, GreatestUpBy, AreExchanged, IsUpCase, IsUpCaseBelow, IsUpCaseAt, IsUpCaseOf, IsExchangeOf, IsUpUnder, AreUpUnder, RestsOnParents, IsUpSettled};
 
 use crate::lost::{catch_up, full, next_marked, rows_of};
 use bit_matrix::Matrix;
 use bit_rows::Row;
+use child_exchange::{difference, exchanged};
 use std::alloc::{AllocError, Global};
 use ta_model::Rule;
 use trim_ops::RuleIndex;
-
-/// What stands at place i of the tuple with r at place p.
-fn kid_of_exchange(kids: &[u32], p: usize, r: u32, i: usize) -> u32
-    requires { i < length kids.now }
-    ensures { IsAt (slice_set kids.now p r) i result }
-{
-    if i == p { r } else { kids[i] }
-}
-
-/// Whether the second tuple is the first with r at place p.
-fn is_exchange(low: &[u32], p: usize, r: u32, high: &[u32]) -> bool
-    ensures { IsTrue result ↔ (high.now ≡ slice_set low.now p r) }
-{
-    if low.len() != high.len() {
-        return false;
-    }
-    for i in 0..low.len() {
-        if high[i] != kid_of_exchange(low, p, r, i) {
-            return false;
-        }
-    }
-    true
-}
-
-/// The place where the tuples differ, if there is one alone.
-fn difference(low: &[u32], high: &[u32]) -> Option<usize>
-    ensures within { IfSome result (λ p. (p < length low.now) × (p < length high.now)) }
-    ensures alone { (p q r : ℕ) → IsAt low.now p q → q ≢ r → high.now ≡ slice_set low.now p r
-        → (result ≡ Some p) × IsAt high.now p r }
-{
-    if low.len() != high.len() {
-        return None;
-    }
-    for at in 0..low.len() {
-        if low[at] != high[at] {
-            if is_exchange(low, at, high[at], high) {
-                return Some(at);
-            }
-            return None;
-        }
-    }
-    None
-}
-
-/// Whether one of the rules in the list, those with r among their children, is the rule with r at
-/// place p and leads above its parent.
-fn exchanged(rules: &[Rule], list: &[u32], rule: &Rule, p: usize, r: u32, sim: &Matrix) -> bool
-    requires within { AreWithin (length sim.now) rules.now }
-    requires rule { IsWithin (length sim.now) rule.now }
-    requires place { p < length rule.now.kids }
-    requires list { All (λ s. s < length rules.now) list.now }
-    ensures { (lists : List (List ℕ)) → IsByChild rules.now lists → IsAt lists r list.now
-        → IsTrue result ↔ IsExchanged rules.now (Holds sim.now) rule.now p r }
-{
-    for s in list {
-        let over = &rules[*s as usize];
-        if over.symbol == rule.symbol
-            && is_exchange(rule.kids.as_slice(), p, r, over.kids.as_slice())
-            && sim.get(rule.parent as usize, over.parent as usize)
-        {
-            return true;
-        }
-    }
-    false
-}
 
 /// Clears the pair of the rule's child at place p and r where no rule with r there leads above its
 /// parent.
@@ -339,7 +275,8 @@ fn row_of_finals(alloc: Global, finals: &[u32], n: usize) -> Result<Row, AllocEr
 
 /// The pairs in which the second state is final where the first is.
 fn pairs_of_finals(alloc: Global, finals: &[u32], n: usize) -> Result<Matrix, AllocError>
-    requires { All (λ q. q < n) finals.now }
+    requires finals { All (λ q. q < n) finals.now }
+    requires few { n ≤ 20000 }
     ensures square { IfOk result (λ m. IsSquare n m) }
     ensures finals { IfOk result (λ m. KeepsFinals finals.now m) }
     ensures each { IfOk result (λ start. (m : Matrix) → IsSquare n m → KeepsFinals finals.now m → IsPartOf m start) }
@@ -365,6 +302,7 @@ pub(crate) fn greatest_up(
     requires by_child { IsByChild rules.now by_child.now }
     requires by_parent { IsByParent rules.now by_parent.now }
     requires by_parent_size { length by_parent.now ≡ length by_child.now }
+    requires few { length by_child.now ≤ 20000 }
     ensures square { IfOk result (λ sim. IsSquare (length by_child.now) sim) }
     ensures pairs { IfOk result (λ sim. (q r : ℕ) → Holds sim q r ↔ GreatestUpBy (length by_child.now) finals.now rules.now q r) }
 {

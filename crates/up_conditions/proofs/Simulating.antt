@@ -6,7 +6,7 @@ use Rattle.tree_definitions.specs.Relation.{Relation, IsAt}
 use Rattle.tree_definitions.specs.Simulation.{IsUp}
 use Rattle.tree_definitions.proofs.Places.{exchanges_by_place, places_by_exchange}
 use Rattle.trim_ops.proofs.Bridge.{has_line}
-use Rattle.simulations.specs.UpCases.{IsUpBy}
+use Rattle.child_exchange.specs.Exchanging.{IsUpBy}
 use Rattle.up_conditions.proofs.Others.{at_distinct}
 
 pub label_once : (A : Automaton) → IsAutomaton A → (j k : ℕ) (a : Symbol) → IsLabel A j a → IsLabel A k a → j ≡ k

@@ -2,7 +2,7 @@
 use Rattle.std.specs.Prelude.{ℕ, List}
 use Rattle.tree_definitions.specs.Automaton.{Rule}
 use Rattle.tree_definitions.specs.Relation.{Relation, IsAt}
-use Rattle.simulations.specs.UpCases.{IsExchanged}
+use Rattle.child_exchange.specs.Exchanging.{IsExchanged}
 
 -- with each state above the child at place p there, some rule under the symbol leads above the parent
 abbrev pub IsExchangedAt : List Rule → Relation → Rule → ℕ → Type 0

@@ -4,60 +4,16 @@ ghost use Rattle.std.specs.Prelude.{◌≡◌, ◌<◌, ◌↔◌, ℕ, List, Is
 ghost use Rattle.tree_definitions.specs.Relation.{Has, Holds, IsAt};
 ghost use Rattle.tree_definitions.specs.Simulation.{IsUp};
 ghost use Rattle.trim_ops.specs.Marking.{AreWithin, IsByChild, IsWithin};
-ghost use Rattle.simulations.specs.UpCases.{IsExchanged, IsUpBy};
+ghost use Rattle.child_exchange.specs.Exchanging.{IsExchanged, IsUpBy};
 ghost use Rattle.up_conditions.specs.Exchanging.{IsExchangedAll, IsExchangedAt};
 
 use crate::finals::row_of;
 use bit_matrix::Matrix;
 use bit_rows::Row;
+use child_exchange::exchanged;
 use std::alloc::{AllocError, Global};
 use ta_model::{Listed, Rule};
 use trim_ops::{RuleIndex, rules_by_child};
-
-/// What stands at place i of the tuple with r at place p.
-fn kid_of_exchange(kids: &[u32], p: usize, r: u32, i: usize) -> u32
-    requires { i < length kids.now }
-    ensures { IsAt (slice_set kids.now p r) i result }
-{
-    if i == p { r } else { kids[i] }
-}
-
-/// Whether the second tuple is the first with r at place p.
-fn is_exchange(low: &[u32], p: usize, r: u32, high: &[u32]) -> bool
-    ensures { IsTrue result ↔ (high.now ≡ slice_set low.now p r) }
-{
-    if low.len() != high.len() {
-        return false;
-    }
-    for i in 0..low.len() {
-        if high[i] != kid_of_exchange(low, p, r, i) {
-            return false;
-        }
-    }
-    true
-}
-
-/// Whether one of the rules in the list, those with r among their children, is the rule with r at
-/// place p and leads above its parent.
-fn exchanged(rules: &[Rule], list: &[u32], rule: &Rule, p: usize, r: u32, sim: &Matrix) -> bool
-    requires within { AreWithin (length sim.now) rules.now }
-    requires rule { IsWithin (length sim.now) rule.now }
-    requires place { p < length rule.now.kids }
-    requires list { All (λ s. s < length rules.now) list.now }
-    ensures { (lists : List (List ℕ)) → IsByChild rules.now lists → IsAt lists r list.now
-        → IsTrue result ↔ IsExchanged rules.now (Holds sim.now) rule.now p r }
-{
-    for s in list {
-        let over = &rules[*s as usize];
-        if over.symbol == rule.symbol
-            && is_exchange(rule.kids.as_slice(), p, r, over.kids.as_slice())
-            && sim.get(rule.parent as usize, over.parent as usize)
-        {
-            return true;
-        }
-    }
-    false
-}
 
 /// Whether the rule can take each state above its child at place p.
 fn exchanged_at(rules: &[Rule], by_child: &RuleIndex, rule: &Rule, p: usize, sim: &Matrix) -> bool

@@ -1,4 +1,4 @@
-use Rattle.std.proofs.Common.{ap, Err}
+use Rattle.std.proofs.Common.{◌<◌, ap, Err, subst}
 use Rattle.tree_definitions.specs.Trim.{IsTrim}
 use Rattle.quotient.specs.Merged.{IsCanonicalQuotient}
 use Rattle.quotient.proofs.Useful.{restriction_trims, greatest_joined, quotient_of, quotient_language, few_useful, many_useful}
@@ -36,3 +36,6 @@ returns-clause-few g c =
     let A = g.T.Table.automaton c.args.t.now in
     let T = g.T.Table.automaton c.in_ok-part.part in
     few_useful A T 20000 (restriction_trims A T c.in_ok-keep.keep c.in_ok-keep.ensures.exact c.in_ok-part.ensures) c.in-Ok.ensures.few
+
+pub collapse-requires-clause-reflexive : goal.collapse-requires-clause-reflexive
+collapse-requires-clause-reflexive g c q l = c.in-Ok.ensures.reflexive q (subst (λ n. q < n) c.in-Ok.ensures.greatest.square.rows l)

@@ -1,7 +1,7 @@
 use Rattle.std.proofs.Common.{◌≡◌, length, refl, arith}
 use Rattle.std.proofs.lemmas.Option.{slice_get_within}
 use Rattle.tree_definitions.specs.Relation.{Holds}
-use Rattle.simulations.proofs.DownSteps.{all_zip_from}
+use Rattle.child_exchange.proofs.Exchanges.{all_zip_from}
 use Rattle.simulations.proofs.downward.kids_below.Goals as goal
 
 pub returns : goal.returns

@@ -1,13 +1,24 @@
-use Rattle.std.proofs.Common.{◌≡◌, true, false, length, get_or, sym, ap, ◌∙◌, subst}
+use Rattle.std.proofs.Common.{◌≡◌, ◌<◌, true, false, length, get_or, sym, ap, ◌∙◌, subst, arith}
+use Rattle.std.proofs.lemmas.List.Elements.{All-weaker}
 use Rattle.std.specs.Prelude.{All}
 use Rattle.tree_definitions.specs.Automaton.{Rule}
 use Rattle.tree_definitions.specs.Relation.{Holds, IsAt}
 use Rattle.tree_definitions.proofs.Members.{at_unique, place_of}
-use Rattle.simulations.specs.UpCases.{IsExchanged, IsUpMatrix}
+use Rattle.trim_ops.specs.Marking.{IsWithin}
+use Rattle.child_exchange.specs.Exchanging.{IsExchanged}
+use Rattle.simulations.specs.UpCases.{IsUpMatrix}
 use Rattle.simulations.proofs.ClearingSteps.{clearing_one}
-use Rattle.simulations.proofs.Exchanges.{kid_at}
+use Rattle.child_exchange.proofs.Exchanges.{kid_at}
 use Rattle.simulations.proofs.UpSteps.{up_not_within}
 use Rattle.simulations.proofs.upward.examine.Goals as goal
+
+pub exchanged-requires-clause-parents : goal.exchanged-requires-clause-parents
+exchanged-requires-clause-parents c =
+    let n = length c.args.by_child.now in
+    All-weaker (IsWithin n) (λ (over : Rule). over.parent < length c.args.sim.now) (λ x w. let l = w.parent in let e = c.requires.state.square.rows in omega (arith, l, e)) c.args.rules.now c.requires.within
+
+pub exchanged-requires-clause-whole : goal.exchanged-requires-clause-whole
+exchanged-requires-clause-whole c s over at kat = c.requires.by_child.whole c.args.r c.at.result.now s over c.args.p c.at.ensures at kat
 
 pub returns-clause-clearing : goal.returns-clause-clearing
 returns-clause-clearing c =
@@ -23,7 +34,7 @@ returns-clause-clearing c =
     let place = place_of rules rule c.requires.rule in
     let on : Holds sim q r = c.get.ensures.0 c.if-not-get.false in
     let fails : ¬ IsExchanged rules (Holds sim) rule p r =
-    λ a. let t : false ≡ true = sym c.if-exchanged.false ∙ (c.exchanged.ensures c.args.by_child.now c.requires.by_child c.at.ensures).1 a in cc in
+    λ a. let t : false ≡ true = sym c.if-exchanged.false ∙ c.exchanged.ensures.1 a in cc in
     let rows = c.requires.state.square.rows in
     clearing_one n (IsUpMatrix rules) sim c.args.marks.now q r c.clear.new.self c.set.new.self c.requires.state on
     (up_not_within rules sim place.0 rule p q r place.1 kat fails)

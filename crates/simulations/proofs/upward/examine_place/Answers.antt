@@ -3,7 +3,7 @@ use Rattle.std.proofs.lemmas.Option.{slice_get_within}
 use Rattle.tree_definitions.specs.Automaton.{Rule}
 use Rattle.simulations.specs.UpCases.{IsUpMatrix}
 use Rattle.simulations.proofs.ClearingSteps.{clearing_then}
-use Rattle.simulations.proofs.Exchanges.{kid_at}
+use Rattle.child_exchange.proofs.Exchanges.{kid_at}
 use Rattle.simulations.proofs.UpSteps.{kid_next, kid_ends}
 use Rattle.simulations.proofs.upward.examine_place.Goals as goal
 

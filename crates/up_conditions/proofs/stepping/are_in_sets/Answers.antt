@@ -1,6 +1,6 @@
 use Rattle.std.proofs.Common.{◌≡◌, length, refl, arith}
 use Rattle.std.proofs.lemmas.Option.{slice_get_within}
-use Rattle.simulations.proofs.DownSteps.{all_zip_from}
+use Rattle.child_exchange.proofs.Exchanges.{all_zip_from}
 use Rattle.up_conditions.specs.Stepping.{IsInSetAt}
 use Rattle.up_conditions.proofs.stepping.are_in_sets.Goals as goal
 

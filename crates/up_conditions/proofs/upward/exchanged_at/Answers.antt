@@ -1,10 +1,12 @@
 use Rattle.std.proofs.Common.{◌≡◌, ◌≢◌, ◌<◌, ◌≤◌, ℕ, List, true, length, get_or, refl, sym, ap, ◌∙◌, subst, arith, ⊎_elim}
 use Rattle.std.proofs.lemmas.Bool.{cases_eq, cases_lt}
+use Rattle.std.proofs.lemmas.List.Elements.{All-weaker}
 use Rattle.std.proofs.lemmas.Option.{slice_get-get_or, slice_get_within}
 use Rattle.tree_definitions.specs.Automaton.{Rule}
 use Rattle.tree_definitions.specs.Relation.{Holds, IsAt}
 use Rattle.tree_definitions.proofs.Members.{at_unique}
-use Rattle.simulations.specs.UpCases.{IsExchanged}
+use Rattle.trim_ops.specs.Marking.{IsWithin}
+use Rattle.child_exchange.specs.Exchanging.{IsExchanged}
 use Rattle.up_conditions.proofs.upward.exchanged_at.Goals as goal
 
 -- the child at the place
@@ -20,8 +22,16 @@ returns-then-not-exchanged c = (
       let r = c.in-Some.r in
       let q = get_or c.as_slice.result.now c.args.p 0 in
       let ex = h q r kat ((c.row.ensures.members r).0 c.in-Some.ensures.least.set) in
-      sym c.if-not-exchanged.true ∙ (c.exchanged.ensures c.args.by_child.now c.requires.by_child c.at.ensures).1 ex,
+      sym c.if-not-exchanged.true ∙ c.exchanged.ensures.1 ex,
 )
+
+pub exchanged-requires-clause-parents : goal.exchanged-requires-clause-parents
+exchanged-requires-clause-parents c =
+    let n = length c.args.sim.now in
+    All-weaker (IsWithin n) (λ (over : Rule). over.parent < n) (λ x w. w.parent) c.args.rules.now c.requires.within
+
+pub exchanged-requires-clause-whole : goal.exchanged-requires-clause-whole
+exchanged-requires-clause-whole c s over at kat = c.requires.by_child.whole c.in-Some.r c.at.result.now s over c.args.p c.at.ensures at kat
 
 pub overflow_add-from : goal.overflow_add-from
 overflow_add-from c =
@@ -47,7 +57,7 @@ loop-r-preserved c =
     record {
       up = omega (arith, w, long);
       done = λ k l h. ⊎_elim
-          (λ (e : k ≡ r). subst Can (sym e) ((c.exchanged.ensures c.args.by_child.now c.requires.by_child c.at.ensures).0 c.if-not-exchanged.false))
+          (λ (e : k ≡ r). subst Can (sym e) (c.exchanged.ensures.0 c.if-not-exchanged.false))
           (λ (d : k ≢ r). ⊎_elim
           (λ (early : k < c.loop-r.from). c.loop-r.invariant.done k early h)
           (λ (late : c.loop-r.from ≤ k). let least = c.in-Some.ensures.least.least k late ((c.row.ensures.members k).1 h) in absurd (omega (arith, least, l, d)))

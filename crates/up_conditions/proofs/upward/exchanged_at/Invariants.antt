@@ -1,6 +1,6 @@
 use Rattle.std.proofs.Common.{◌<◌, ◌≤◌, ◌-◌, ℕ, length}
 use Rattle.tree_definitions.specs.Relation.{Holds}
-use Rattle.simulations.specs.UpCases.{IsExchanged}
+use Rattle.child_exchange.specs.Exchanging.{IsExchanged}
 use Rattle.up_conditions.proofs.upward.exchanged_at.Given as goal
 
 -- the rule can take the states before this one

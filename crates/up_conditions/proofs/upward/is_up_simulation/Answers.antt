@@ -2,7 +2,7 @@ use Rattle.std.proofs.Common.{◌↔◌, ℕ, List, sym, ◌∙◌, subst}
 use Rattle.std.specs.Prelude.{Contains}
 use Rattle.tree_definitions.specs.Automaton.{Rule, IsFinal}
 use Rattle.tree_definitions.specs.Relation.{Has, Holds}
-use Rattle.simulations.specs.UpCases.{IsUpBy}
+use Rattle.child_exchange.specs.Exchanging.{IsUpBy}
 use Rattle.up_conditions.proofs.Simulating.{lines_from_up, up_from_lines}
 use Rattle.up_conditions.proofs.upward.is_up_simulation.Goals as goal
 

@@ -1,8 +1,8 @@
 use Rattle.std.proofs.Common.{◌≡◌, length, set, refl, arith}
 use Rattle.std.proofs.lemmas.List.{length-set}
 use Rattle.std.proofs.lemmas.Option.{slice_get_within}
-use Rattle.simulations.proofs.Exchanges.{lists_same}
-use Rattle.simulations.proofs.upward.is_exchange.Goals as goal
+use Rattle.child_exchange.proofs.Exchanges.{lists_same}
+use Rattle.child_exchange.proofs.tuples.is_exchange.Goals as goal
 
 pub returns : goal.returns
 returns c =

@@ -1,8 +1,9 @@
--- A tuple with another number at one place.
+-- A tuple with another number at one place, and tuples place by place.
 use Rattle.std.proofs.Common.{◌≡◌, ◌≢◌, ℕ, zero, suc, ◌<◌, List, [], ◌∷◌, length, set, refl, ap, ◌∙◌, arith, get_or, subst, sym}
+use Rattle.std.specs.List.{AllZip}
 use Rattle.std.proofs.lemmas.Option.{slice_get-get_or}
 use Rattle.tree_definitions.specs.Automaton.{Rule}
-use Rattle.tree_definitions.specs.Relation.{IsAt}
+use Rattle.tree_definitions.specs.Relation.{Relation, IsAt}
 use Rattle.tree_definitions.proofs.Members.{at_unique}
 
 pub set_here : (xs : List ℕ) (p r : ℕ) → p < length xs → IsAt (set xs p r) p r
@@ -40,3 +41,10 @@ lists_same (x ∷ xs) (y ∷ ys) e h =
 -- what is read at a place of a rule's children stands there
 pub kid_at : (list : List ℕ) (rule : Rule) (p : ℕ) → list ≡ rule.kids → p < length rule.kids → IsAt rule.kids p (get_or list p 0)
 kid_at list rule p e l = subst (λ (xs : List ℕ). IsAt xs p (get_or list p 0)) e (slice_get-get_or list p 0 (subst (λ (xs : List ℕ). p < length xs) (sym e) l))
+
+-- two lists of one length that are in the relation at each place
+pub all_zip_from : (R : Relation) (xs ys : List ℕ) → length xs ≡ length ys → ((i x y : ℕ) → IsAt xs i x → IsAt ys i y → R x y) → AllZip R xs ys
+all_zip_from R [] [] e h = tt
+all_zip_from R [] (y ∷ ys) e h = absurd (omega (arith, e))
+all_zip_from R (x ∷ xs) [] e h = absurd (omega (arith, e))
+all_zip_from R (x ∷ xs) (y ∷ ys) e h = (h 0 x y refl refl, all_zip_from R xs ys (omega (arith, e)) (λ i u v p q. h (suc i) u v p q))

@@ -1,6 +1,6 @@
 use Rattle.std.proofs.Common.{ℕ, ◌<◌}
 use Rattle.tree_definitions.specs.Relation.{IsAt}
-use Rattle.simulations.proofs.upward.difference.Given as goal
+use Rattle.child_exchange.proofs.tuples.difference.Given as goal
 
 -- the tuples are equal before this place
 abbrev pub invariant-loop-at : goal.invariant-loop-at

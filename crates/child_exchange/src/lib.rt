@@ -1,0 +1,10 @@
+//! A rule with another state at one place of its children, as upward simulations look for it.
+#![tactic(auto)]
+
+mod rules;
+#[cfg(test)]
+mod tests;
+mod tuples;
+
+pub use rules::exchanged;
+pub use tuples::{difference, is_exchange};
