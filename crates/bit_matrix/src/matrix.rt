@@ -74,6 +74,15 @@ impl Matrix {
         Ok(Matrix { rows })
     }
 
+    /// The relation with these rows. Takes no memory.
+    pub fn of_rows(rows: Vec<Row>) -> Matrix
+        requires square { IsSquare (length rows.items) rows.items }
+        requires limit { length rows.items ≤ 20000 }
+        ensures { result ≡ rows.items }
+    {
+        Matrix { rows }
+    }
+
     /// An equal matrix.
     pub fn copy(&self) -> Result<Matrix, AllocError>
         ensures { IfOk result (λ m. m ≡ self.now) }

@@ -1,2 +1,4 @@
 pub mod Places
 pub mod Within
+pub mod Members
+pub mod Order

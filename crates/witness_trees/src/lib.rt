@@ -3,13 +3,14 @@
 //!
 //! - `Nodes`: a list of symbols, and nodes over them.
 //! - `reach`: for each node, the states of an automaton that its tree reaches.
-//! - `print`, `read`: the text of nodes. `laws` says that each is the other's inverse.
+//! - `print`, `read`: the text of nodes. `laws` says that each is the other's inverse. `reader` has
+//!   the calls on marks and numbers that other lines share.
 #![tactic(auto)]
 
 mod laws;
 mod nodes;
 mod printer;
-mod reader;
+pub mod reader;
 mod states;
 mod symbol_places;
 

@@ -37,8 +37,8 @@ pub(crate) struct Line {
     pub(crate) kids: Vec<u64>,
 }
 
-/// The first place of the mark.
-fn mark_place(bytes: &[u8], mark: u8) -> Option<usize>
+/// The first place of the mark. Takes no memory.
+pub fn mark_place(bytes: &[u8], mark: u8) -> Option<usize>
     ensures { IsCut mark bytes.now result }
 {
     for i in 0..bytes.len() {
@@ -55,8 +55,8 @@ fn are_digits(bytes: &[u8]) -> bool
     bytes.iter().all(|b| 48 <= *b && *b <= 57)
 }
 
-/// Whether the bytes are decimal digits without a leading zero.
-fn writes_number(bytes: &[u8]) -> bool
+/// Whether the bytes are decimal digits without a leading zero. Takes no memory.
+pub fn writes_number(bytes: &[u8]) -> bool
     ensures { result ≡ is_number bytes.now }
 {
     match bytes {
@@ -71,8 +71,8 @@ fn writes_number(bytes: &[u8]) -> bool
     }
 }
 
-/// The number that the digits write, or 2^32 where it is greater.
-fn value_of(digits: &[u8]) -> u64
+/// The number that the digits write, or 2^32 where it is greater. Takes no memory.
+pub fn value_of(digits: &[u8]) -> u64
     ensures { result ≡ capped (number_of digits.now) }
 {
     let mut value = 0;
@@ -82,7 +82,8 @@ fn value_of(digits: &[u8]) -> u64
     value
 }
 
-fn pieces(alloc: Global, bytes: &[u8], mark: u8) -> Result<Vec<&[u8]>, AllocError>
+/// The pieces between the marks.
+pub fn pieces(alloc: Global, bytes: &[u8], mark: u8) -> Result<Vec<&[u8]>, AllocError>
     ensures { IfOk result (λ v. map (λ x. x.now) v.items ≡ pieces_at mark bytes.now) }
 {
     bytes.split(|b| *b == mark).collect(alloc)

@@ -1,0 +1,9 @@
+pub mod Named
+pub mod Digits
+pub mod Starts
+pub mod Reading
+pub mod Identity
+pub mod Judging
+pub mod Sets
+pub mod Worded
+pub mod Paired

@@ -1,0 +1,4 @@
+pub mod Lines
+pub mod Relations
+pub mod Pairs
+pub mod Telling

@@ -1,0 +1,16 @@
+//! Lines of certificates: those of a relation, and those of pairs.
+//!
+//! A relation of the name `left`, say, is the line `left identity`, or the line `left rows` and a
+//! line of hexadecimal digits for each state. Pairs are a line `pairs N` and a line `q : s1 s2` for
+//! each pair. Each text is printed and read back; what reading refuses, and where, is said by
+//! `relation_in` and `pairs_in` in `specs`.
+#![tactic(auto)]
+
+mod names;
+mod pairs;
+mod relations;
+mod rows;
+
+pub use names::StatePlaces;
+pub use pairs::{put_pairs, read_pairs};
+pub use relations::{put_relation, read_relation};
