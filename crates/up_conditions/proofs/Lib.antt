@@ -4,3 +4,5 @@ pub mod Rejecting
 pub mod Simulating
 pub mod Stepped
 pub mod Covered
+pub mod Filtered
+pub mod Chosen

@@ -2,3 +2,4 @@ pub mod Listed
 pub mod Exchanging
 pub mod Stepping
 pub mod Covering
+pub mod Choosing

@@ -7,8 +7,8 @@ ghost use Rattle.listed_pairs.specs.Places.{IsFirst, IsNth};
 ghost use Rattle.up_conditions.specs.Listed.{RejectsBy};
 ghost use Rattle.listed_pairs.specs.Within.{AreWithin};
 
-use listed_pairs::Pair;
 use bit_rows::Row;
+use listed_pairs::Pair;
 use std::alloc::{AllocError, Global};
 use ta_model::Listed;
 

@@ -6,6 +6,7 @@
 
 mod apart;
 mod by_state;
+mod choices;
 mod covering;
 mod finals;
 mod stepping;
@@ -14,7 +15,7 @@ mod tests;
 mod upward;
 
 pub use apart::first_covered;
-pub use covering::first_uncovered_leaf;
+pub use covering::{first_uncovered_leaf, first_uncovered_rule};
 pub use finals::first_rejecting;
 pub use stepping::{post, rules_by_symbol};
 pub use upward::is_up_simulation;

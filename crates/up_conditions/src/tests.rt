@@ -6,11 +6,11 @@ ghost use Rattle.listed_pairs.specs.Within.{AreWithin};
 use crate::{first_covered, first_rejecting, first_uncovered_leaf, is_up_simulation};
 use bit_matrix::Matrix;
 use bit_rows::Row;
+use listed_pairs::Pair;
 use smallvec::SmallVec;
 use std::alloc::{AllocError, Global};
 use std::process::Abort;
 use std::test::Fail;
-use listed_pairs::Pair;
 use ta_model::{Listed, Name, NameError, Rule, Symbol};
 
 /// The automaton of one leaf alone: one state, which is final, and one rule.
