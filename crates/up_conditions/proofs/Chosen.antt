@@ -37,11 +37,11 @@ length_one_more : {X : Type 0} (xs : List X) (x : X) → length (xs ++ x ∷ [])
 length_one_more [] x = refl
 length_one_more (z ∷ zs) x = ap suc (length_one_more zs x)
 
-append_none : {X : Type 0} (xs : List X) → xs ++ [] ≡ xs
+pub append_none : {X : Type 0} (xs : List X) → xs ++ [] ≡ xs
 append_none [] = refl
 append_none (z ∷ zs) = ap (λ l. z ∷ l) (append_none zs)
 
-append_one : {X : Type 0} (xs : List X) (x : X) (ys : List X) → (xs ++ x ∷ []) ++ ys ≡ xs ++ x ∷ ys
+pub append_one : {X : Type 0} (xs : List X) (x : X) (ys : List X) → (xs ++ x ∷ []) ++ ys ≡ xs ++ x ∷ ys
 append_one [] x ys = refl
 append_one (z ∷ zs) x ys = ap (λ l. z ∷ l) (append_one zs x ys)
 
@@ -128,6 +128,16 @@ none_open B a lacks = record {
   within = λ r m. absurd (contains_none r m);
   whole = λ r rule at label begin. absurd (lacks (contains_at B.symbols rule.symbol a label));
 }
+
+-- at the end the parents of the open rules are the step
+pub ends_post : (B : Automaton) (rules : List Rule) → rules ≡ B.rules → (a : Symbol) (sets : List Row) (count : ℕ) → length sets ≡ count → (list : List ℕ) (row : Row) → AreOpen B a sets list
+    → ((s : ℕ) → Has row s ↔ ((r : ℕ) × Contains list r × LeadsTo rules count s r)) → (s : ℕ) → Has row s ↔ Post B a sets s
+ends_post B rules is a sets count size list row leaves by_rules s =
+    let by_own = subst (λ (rs : List Rule). (t : ℕ) → Has row t ↔ ((r : ℕ) × Contains list r × LeadsTo rs count t r)) is by_rules in
+    let members = subst (λ n. (t : ℕ) → Has row t ↔ ((r : ℕ) × Contains list r × LeadsTo B.rules n t r)) (sym size) by_own in (
+      λ h. let k = (members s).0 h in leads_to_post B a sets list leaves s k.0 k.1 k.2,
+      λ p. (members s).1 (post_leads B a sets list leaves s p),
+    )
 
 pub sets_one_more : (sets : List Row) (P : Row) (count : ℕ) → length sets ≡ count → length (sets ++ P ∷ []) ≡ count + 1
 sets_one_more sets P count size = let l = length_one_more sets P in omega (arith, l, size)

@@ -3,3 +3,4 @@ pub mod Exchanging
 pub mod Stepping
 pub mod Covering
 pub mod Choosing
+pub mod Trailing

@@ -34,7 +34,7 @@ fn has_kid_in(rule: &Rule, place: usize, set: &Row) -> bool
 }
 
 /// The rules of the list whose child at the place is in the set.
-fn with_kid_in(
+pub(crate) fn with_kid_in(
     alloc: Global,
     rules: &[Rule],
     places: &[u32],
@@ -56,7 +56,7 @@ fn with_kid_in(
 }
 
 /// The parents of the rules of the list that have so many children.
-fn parents_at_end(
+pub(crate) fn parents_at_end(
     alloc: Global,
     states: usize,
     rules: &[Rule],

@@ -25,7 +25,7 @@ use ta_model::{Listed, Rule, Symbol};
 use trim_ops::RuleIndex;
 
 /// The places of B's rules under the symbol.
-fn rules_under<'a>(
+pub(crate) fn rules_under<'a>(
     b: &Listed,
     alphabet: &Alphabet,
     by_symbol: &'a RuleIndex,

@@ -26,7 +26,7 @@ pub(crate) fn row_of(alloc: Global, places: &[u32], n: usize) -> Result<Row, All
 }
 
 /// Whether the pair's state is final and its set has no final state.
-fn rejects(left: &Row, right: &Row, pair: &Pair) -> bool
+pub(crate) fn rejects(left: &Row, right: &Row, pair: &Pair) -> bool
     requires state { pair.now.state < length left.now }
     requires set { length pair.now.set ≡ length right.now }
     ensures { IsTrue result ↔ RejectsBy left.now right.now pair.now }

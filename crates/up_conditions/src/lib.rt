@@ -8,14 +8,22 @@ mod apart;
 mod by_state;
 mod choices;
 mod covering;
+mod entry;
+mod entry_covers;
+mod entry_steps;
 mod finals;
+mod sorted_rules;
 mod stepping;
 #[cfg(test)]
 mod tests;
+mod trail;
 mod upward;
 
 pub use apart::first_covered;
+pub use entry::UpEntry;
+pub use entry_covers::first_covered_entry;
 pub use covering::{first_uncovered_leaf, first_uncovered_rule};
 pub use finals::first_rejecting;
 pub use stepping::{post, rules_by_symbol};
+pub use trail::{first_rejecting_entry, first_wrong_step};
 pub use upward::is_up_simulation;
