@@ -1,9 +1,11 @@
 -- Named entries, their states and their sets.
-use Rattle.std.proofs.Common.{◌≡◌, ◌↔◌, ℕ, suc, ◌<◌, ◌≤◌, Some, Bool, true, false, List, [], ◌∷◌, ◌++◌, length, get_or, map, refl, sym, ap, ◌∙◌, subst, arith}
+use Rattle.std.proofs.Common.{◌≡◌, ◌≢◌, ◌↔◌, inl, inr, ⊎_elim, ◌+◌, set, ℕ, suc, ◌<◌, ◌≤◌, Some, Bool, true, false, List, [], ◌∷◌, ◌++◌, length, get_or, map, refl, sym, ap, ◌∙◌, subst, arith}
 use Rattle.std.specs.Prelude.{All, Contains}
 use Rattle.std.specs.List.{AllZip}
-use Rattle.std.proofs.lemmas.List.Elements.{All-contains, All-head, All-tail}
-use Rattle.std.proofs.lemmas.Option.{slice_get_within}
+use Rattle.std.proofs.lemmas.List.Elements.{All-contains, All-head, All-tail, Contains-push_cases}
+use Rattle.std.proofs.lemmas.Option.{slice_get-get_or, slice_get_within}
+use Rattle.std.proofs.lemmas.Bool.{cases_eq}
+use Rattle.up_conditions.proofs.Grouped.{at_set, filing_add}
 use Rattle.listed_pairs.specs.Places.{IsFirst, IsNth}
 use Rattle.listed_pairs.proofs.Firsts.{first_weaker}
 use Rattle.tree_definitions.specs.Tree.{Symbol}
@@ -14,7 +16,7 @@ use Rattle.tree_definitions.specs.UpTrail.{UpEntry, HasPairBefore, IsUpStep}
 use Rattle.tree_definitions.proofs.Listing.{label_at, rule_of_line}
 use Rattle.tree_definitions.proofs.Members.{at_unique, at_within, contains_at, place_of}
 use Rattle.up_conditions.proofs.Others.{at_distinct}
-use Rattle.up_conditions.specs.Trailing.{HasSetAt, HasStateAt, IsNthAt, IsStepBy, NameEarlier}
+use Rattle.up_conditions.specs.Trailing.{AllAtBefore, AreFiledBefore, HasSetAt, HasStateAt, IsNthAt, IsStepBy, NameEarlier}
 
 pub zip_none : {X Y : Type 0} (R : X → Y → Type 0) (ys : List Y) → AllZip R [] ys → ys ≡ []
 zip_none R [] z = refl
@@ -148,3 +150,27 @@ module _ (A B : Automaton) (fits : IsAutomaton A) (rules : List Rule) (same : (r
   first_no_step = first_weaker (IsNth entries (λ e. ¬ IsStepBy symbols rules B entries e)) (IsNthAt entries (λ i entry. ¬ IsUpStep A B entries i entry))
       (λ n h. (h.0, h.1, h.2, h.3, λ up. h.4 (step_here h.0 h.1 up)))
       (λ n h. (h.0, h.1, h.2, h.3, λ st. h.4 (step_at h.0 h.1 h.3 st)))
+
+pub all_at_next : {X : Type 0} (xs : List X) (Kind : ℕ → X → Type 0) (i : ℕ) (x : X) → AllAtBefore xs Kind i → IsAt xs i x → Kind i x → AllAtBefore xs Kind (i + 1)
+all_at_next xs Kind i x all at h j y l jat = ⊎_elim
+    (λ (e : j ≡ i).
+    let same : x ≡ y = at_unique xs i x y at (subst (λ k. IsAt xs k y) e jat) in
+    subst (λ k. Kind k y) (sym e) (subst (Kind i) same h))
+    (λ (d : j ≢ i). all j y (omega (arith, l, d)) jat)
+    (cases_eq j i)
+
+pub filed_next : (entries : List UpEntry) (n i : ℕ) (lists : List (List ℕ)) (e : UpEntry) → IsAt entries i e → e.pair.state < n → AreFiledBefore entries n i lists
+    → AreFiledBefore entries n (i + 1) (set lists e.pair.state (get_or lists e.pair.state [] ++ i ∷ []))
+filed_next entries n i lists e at l m = record {
+  filing = filing_add (λ (o : UpEntry). o.pair.state) entries n i lists e at l m.filing;
+  early = λ q list qat k h. elim (at_set lists e.pair.state (get_or lists e.pair.state [] ++ i ∷ []) q list qat) [
+    | inl new ↦ elim (Contains-push_cases (get_or lists e.pair.state []) i k (subst (λ (xs : List ℕ). Contains xs k) new.1 h)) [
+      | inl old ↦
+          let size = m.filing.size in
+          let below = m.early e.pair.state (get_or lists e.pair.state []) (slice_get-get_or lists e.pair.state [] (omega (arith, l, size))) k old in
+          omega (arith, below)
+      | inr same ↦ omega (arith, same)
+    ]
+    | inr old ↦ (let below = m.early q list old.1 k h in omega (arith, below))
+  ];
+}

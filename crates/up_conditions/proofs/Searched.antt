@@ -1,5 +1,5 @@
 -- What a search finds among rules in order.
-use Rattle.std.proofs.Common.{◌≡◌, inl, inr, ℕ, List, length, get_or, Result, Ok, Err, refl, sym, ap, ◌∙◌, subst, arith}
+use Rattle.std.proofs.Common.{◌≡◌, inl, inr, ℕ, List, length, get_or, Ok, Err, refl, sym, ap, ◌∙◌, arith}
 use Rattle.std.specs.Prelude.{Contains}
 use Rattle.std.specs.List.Sorted.{IsBinarySearchResult, IsSearchInRange, IsSorted}
 use Rattle.std.specs.declared.cmp.Ordering.{Ordering}

@@ -42,7 +42,9 @@ fn first_by_rules(
 {
     for i in 0..entries.len() {
         let entry = &entries[i];
-        match is_step(alloc, symbols, rules, b, alphabet, by_symbol, entries, entry) {
+        match is_step(
+            alloc, symbols, rules, b, alphabet, by_symbol, entries, entry,
+        ) {
             Ok(true) => {}
             Ok(false) => return Ok(Some(i as u32 + 1)),
             Err(_) => return Err(AllocError),

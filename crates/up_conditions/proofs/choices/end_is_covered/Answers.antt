@@ -1,9 +1,6 @@
-use Rattle.std.proofs.Common.{◌↔◌, ℕ, List, length, sym, subst}
-use Rattle.std.specs.Prelude.{Contains}
-use Rattle.tree_definitions.specs.Automaton.{Rule}
+use Rattle.std.proofs.Common.{length}
 use Rattle.tree_definitions.specs.Cover.{Post}
 use Rattle.tree_definitions.specs.Relation.{Has, Holds}
-use Rattle.up_conditions.specs.Choosing.{LeadsTo}
 use Rattle.up_conditions.proofs.Chosen.{ends_post}
 use Rattle.up_conditions.proofs.Covered.{covered_up, up_covered}
 use Rattle.up_conditions.proofs.choices.end_is_covered.Goals as goal

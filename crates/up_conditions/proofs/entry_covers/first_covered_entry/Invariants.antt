@@ -1,4 +1,4 @@
-use Rattle.std.proofs.Common.{ℕ, length}
+use Rattle.std.proofs.Common.{length}
 use Rattle.tree_definitions.specs.UpTrail.{UpEntry}
 use Rattle.tree_definitions.specs.Relation.{Holds}
 use Rattle.up_conditions.specs.Trailing.{AllAtBefore, AreFiledBefore, IsCoveredEntry}

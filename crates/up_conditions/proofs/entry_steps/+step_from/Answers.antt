@@ -41,12 +41,20 @@ step_from-requires t c =
     let split : c.args.named.now ≡ first ∷ others = c.in-Some.ensures.cases.0 in
     let size = ap (λ (xs : List ℕ). length xs) split in
     let count = c.requires.count in
-    let falls = c.decreases in
-    (omega (arith, falls, size), (c.requires.sets,
-    (All-tail (λ k. k < length entries) first others (subst (λ (xs : List ℕ). All (λ k. k < length entries) xs) split c.requires.named),
-    (omega (arith, count, size),
-    subst (λ (xs : List ℕ). All (λ r. r < length B.rules) xs) (sym c.deref.ensures.value)
-        (subst (λ (rs : List Rule). All (λ r. r < length rs) c.in_ok-next.next.items) c.rules-2.ensures.value c.in_ok-next.ensures.within)))))
+    let falls = c.decreases in (
+      omega (arith, falls, size),
+      (
+        c.requires.sets,
+        (
+          All-tail (λ k. k < length entries) first others (subst (λ (xs : List ℕ). All (λ k. k < length entries) xs) split c.requires.named),
+          (
+            omega (arith, count, size),
+            subst (λ (xs : List ℕ). All (λ r. r < length B.rules) xs) (sym c.deref.ensures.value)
+                (subst (λ (rs : List Rule). All (λ r. r < length rs) c.in_ok-next.next.items) c.rules-2.ensures.value c.in_ok-next.ensures.within),
+          ),
+        ),
+      ),
+    )
 
 pub returns-clause-members : goal.returns-clause-members
 returns-clause-members t c =

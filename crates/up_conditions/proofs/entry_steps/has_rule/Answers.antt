@@ -1,4 +1,4 @@
-use Rattle.std.proofs.Common.{◌≡◌, ◌↔◌, ℕ, List, length, sym, ap, ◌∙◌, subst}
+use Rattle.std.proofs.Common.{◌≡◌, ◌↔◌, ℕ, List, ap, ◌∙◌, subst}
 use Rattle.std.specs.Prelude.{Contains, IsTrue}
 use Rattle.std.specs.List.{AllZip}
 use Rattle.tree_definitions.specs.Automaton.{Rule}
@@ -21,5 +21,5 @@ returns c states zip =
     let parent : c.pair.inside.state ≡ entry.pair.state = ap (λ (o : Pair). o.state) (c.pair.view_is ∙ c.pair_of-pair.ensures) in
     let line : record { symbol = c.entry.inside.symbol; kids = found; parent = c.pair.inside.state } ≡ record { symbol = entry.symbol; kids = states; parent = entry.pair.state } =
     ap (λ n. record { symbol = n; kids = found; parent = c.pair.inside.state }) symbol ∙ ap (λ (ks : List ℕ). record { symbol = entry.symbol; kids = ks; parent = c.pair.inside.state }) same
-        ∙ ap (λ n. record { symbol = entry.symbol; kids = states; parent = n }) parent in
+    ∙ ap (λ n. record { symbol = entry.symbol; kids = states; parent = n }) parent in
     subst (λ (r : Rule). IsTrue c.has.result ↔ Contains rules r) line c.has.ensures

@@ -1,5 +1,4 @@
-use Rattle.std.proofs.Common.{◌≡◌, ◌↔◌, ◌<◌, ℕ, List, [], true, false, length, refl, sym, ap, ◌∙◌, subst, arith}
-use Rattle.std.specs.Prelude.{All, Contains}
+use Rattle.std.proofs.Common.{◌≡◌, ◌↔◌, ◌<◌, ℕ, List, [], length, refl, sym, ap, ◌∙◌, subst, arith}
 use Rattle.std.specs.List.{AllZip}
 use Rattle.std.proofs.lemmas.Option.{slice_get_read}
 use Rattle.tree_definitions.specs.Tree.{Symbol}
@@ -7,7 +6,7 @@ use Rattle.tree_definitions.specs.Cover.{Pair, Post}
 use Rattle.tree_definitions.specs.Relation.{AreEqual, Has, IsAt, Row}
 use Rattle.tree_definitions.specs.UpTrail.{UpEntry}
 use Rattle.tree_definitions.proofs.Members.{at_unique}
-use Rattle.up_conditions.specs.Trailing.{HasSetAt, HasStateAt}
+use Rattle.up_conditions.specs.Trailing.{HasSetAt}
 use Rattle.up_conditions.proofs.Named.{same_row, same_sets, sets_at, states_all}
 use Rattle.up_conditions.proofs.entry_steps.is_step.Goals as goal
 

@@ -20,4 +20,4 @@ loop-k-preserved c =
     let q = c.pair.inside.state in
     let its : q ≡ e.pair.state = ap (λ (o : Pair). o.state) (c.pair.view_is ∙ c.pair_of-pair.ensures) in
     subst (λ (ys : List ℕ). AllZip (HasStateAt entries) (take (i + 1) places) ys) (sym c.in_ok-push.ensures.ok)
-        (all_zip_more (HasStateAt entries) places c.loop-k.states.items i x q l (get_or_default places i 0 x l) c.loop-k.invariant (e, at, sym its))
+    (all_zip_more (HasStateAt entries) places c.loop-k.states.items i x q l (get_or_default places i 0 x l) c.loop-k.invariant (e, at, sym its))

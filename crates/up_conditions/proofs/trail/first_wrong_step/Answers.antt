@@ -1,4 +1,4 @@
-use Rattle.std.proofs.Common.{◌≡◌, ◌↔◌, ℕ, List, subst}
+use Rattle.std.proofs.Common.{◌↔◌, ℕ, List, subst}
 use Rattle.std.specs.Prelude.{All, Contains, IfNone, IfSome}
 use Rattle.std.proofs.lemmas.Option.{IfSome_then}
 use Rattle.std.proofs.lemmas.Result.{IfOk-weaker}
