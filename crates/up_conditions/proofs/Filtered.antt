@@ -42,6 +42,42 @@ module _ (list : List ℕ) (Kind : ℕ → Type 0) (i x : ℕ) (at : IsAt list i
     ],
   )
 
+  -- the same where some were found before the walk
+  pub add_in : (Base : ℕ → Type 0) (found : List ℕ) → ((r : ℕ) → Contains found r ↔ (Base r ⊎ IsEarly list Kind i r)) → Kind x
+      → (r : ℕ) → Contains (found ++ x ∷ []) r ↔ (Base r ⊎ IsEarly list Kind (i + 1) r)
+  add_in Base found members h r = (
+    λ m. elim (Contains-push_cases found x r m) [
+      | inl old ↦ elim ((members r).0 old) [
+        | inl base ↦ inl base
+        | inr e ↦ inr (early_later r e)
+      ]
+      | inr new ↦ inr (subst (IsEarly list Kind (i + 1)) new (early_here h))
+    ],
+    λ e. elim e [
+      | inl base ↦ Contains-append_left found (x ∷ []) r ((members r).1 (inl base))
+      | inr early ↦ elim (early_before r early) [
+        | inl new ↦ subst (Contains (found ++ x ∷ [])) new.1 (Contains-push found x)
+        | inr old ↦ Contains-append_left found (x ∷ []) r ((members r).1 (inr old))
+      ]
+    ],
+  )
+
+  pub add_out : (Base : ℕ → Type 0) (found : List ℕ) → ((r : ℕ) → Contains found r ↔ (Base r ⊎ IsEarly list Kind i r)) → ¬ Kind x
+      → (r : ℕ) → Contains found r ↔ (Base r ⊎ IsEarly list Kind (i + 1) r)
+  add_out Base found members not r = (
+    λ m. elim ((members r).0 m) [
+      | inl base ↦ inl base
+      | inr e ↦ inr (early_later r e)
+    ],
+    λ e. elim e [
+      | inl base ↦ (members r).1 (inl base)
+      | inr early ↦ elim (early_before r early) [
+        | inl new ↦ absurd (not new.0)
+        | inr old ↦ (members r).1 (inr old)
+      ]
+    ],
+  )
+
 module _ (list : List ℕ) (Kind : ℕ → Type 0) (r : ℕ) where
   pub early_in : (i : ℕ) → IsEarly list Kind i r → Contains list r × Kind r
   early_in i e = (contains_at list e.0 r e.2, e.3)

@@ -8,4 +8,5 @@ pub mod Searched
 pub mod Stepped
 pub mod Covered
 pub mod Filtered
+pub mod Looked
 pub mod Chosen

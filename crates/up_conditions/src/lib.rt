@@ -13,6 +13,7 @@ mod entry_covers;
 mod entry_steps;
 mod finals;
 mod sorted_rules;
+mod step_index;
 mod stepping;
 #[cfg(test)]
 mod tests;
