@@ -9,10 +9,8 @@ use Rattle.tree_definitions.specs.Cover.{Pair, Post}
 use Rattle.tree_definitions.specs.Relation.{Relation, Row, Has, IsAt}
 use Rattle.tree_definitions.specs.UpCert.{IsCoveredUp, AreListed}
 use Rattle.tree_definitions.proofs.Listing.{label_at, rule_of_line}
-use Rattle.tree_definitions.proofs.Members.{at_unique, contains_at, contains_none, place_of}
+use Rattle.tree_definitions.proofs.Members.{at_unique, contains_at, place_of}
 use Rattle.trim_ops.specs.Marking.{AreWithin, IsWithin}
-use Rattle.up_conditions.specs.Listed.{AreBySymbol}
-use Rattle.up_conditions.proofs.Others.{at_distinct}
 use Rattle.up_conditions.specs.Choosing.{AreOpen, BeginIn, HasKidIn, IsChoiceCovered, LeadsTo}
 
 pub at_append : {X : Type 0} (xs ys : List X) (i : ℕ) (x : X) → IsAt xs i x → IsAt (xs ++ ys) i x
@@ -111,23 +109,6 @@ pub next_open : (B : Automaton) (rules : List Rule) → rules ≡ B.rules → (a
 next_open B rules is a sets count size list next P members leaves =
     open_next B a sets list leaves P next (subst (λ n. (r : ℕ) → Contains next r ↔ (Contains list r × HasKidIn B.rules n P r)) (sym size)
     (subst (λ (rs : List Rule). (r : ℕ) → Contains next r ↔ (Contains list r × HasKidIn rs count P r)) is members))
-
--- at the start the rules under the symbol are open
-pub open_at_start : (B : Automaton) → IsAutomaton B → (lists : List (List ℕ)) → AreBySymbol B.rules lists → (a : Symbol) (k : ℕ) (list : List ℕ) → IsAt B.symbols k a → IsAt lists k list → AreOpen B a [] list
-open_at_start B fits lists index a k list symbol lat = record {
-  within = λ r m.
-      let w = index.within k list lat r m in
-      (w.0, w.1, subst (λ i. IsAt B.symbols i a) (sym w.2) symbol, no_sets_begin w.0.kids);
-  whole = λ r rule at label begin.
-      let same : k ≡ rule.symbol = at_distinct B.symbols k rule.symbol a fits.symbols symbol label in
-      index.whole r rule list at (subst (λ n. IsAt lists n list) same lat);
-}
-
-pub none_open : (B : Automaton) (a : Symbol) → ¬ Contains B.symbols a → AreOpen B a [] []
-none_open B a lacks = record {
-  within = λ r m. absurd (contains_none r m);
-  whole = λ r rule at label begin. absurd (lacks (contains_at B.symbols rule.symbol a label));
-}
 
 -- at the end the parents of the open rules are the step
 pub ends_post : (B : Automaton) (rules : List Rule) → rules ≡ B.rules → (a : Symbol) (sets : List Row) (count : ℕ) → length sets ≡ count → (list : List ℕ) (row : Row) → AreOpen B a sets list

@@ -12,8 +12,10 @@ ghost use Rattle.trim_ops.specs.Marking as marking;
 ghost use Rattle.listed_pairs.specs.Within.{AreWithin};
 ghost use Rattle.up_conditions.specs.Choosing.{AreOpen, HasKidIn, IsChoiceCovered, LeadsTo};
 ghost use Rattle.up_conditions.specs.Listed.{AreByState};
+ghost use Rattle.up_conditions.specs.Stepping.{AreListsOf, AreUnder};
 
 use crate::by_state::is_covered;
+use crate::step_index::StepIndex;
 use bit_matrix::Matrix;
 use bit_rows::Row;
 use listed_pairs::Pair;
@@ -34,7 +36,7 @@ fn has_kid_in(rule: &Rule, place: usize, set: &Row) -> bool
 }
 
 /// The rules of the list whose child at the place is in the set.
-pub(crate) fn with_kid_in(
+fn with_kid_in(
     alloc: Global,
     rules: &[Rule],
     places: &[u32],
@@ -104,20 +106,47 @@ fn end_is_covered(
     Ok(is_covered(left, right, pairs, by_state, parent as usize, &row, none))
 }
 
+/// The rules of the list, which are those under the symbol before a child is chosen, whose next
+/// child is in the set.
+pub(crate) fn with_next_kid_in(
+    alloc: Global,
+    b: &Listed,
+    steps: &StepIndex,
+    symbol: u32,
+    places: &[u32],
+    count: usize,
+    set: &Row,
+) -> Result<Vec<u32>, AllocError>
+    requires steps { AreListsOf b.now steps.now }
+    requires set { length set.now ≡ length b.now.states }
+    requires places { All (λ r. r < length b.now.rules) places.now }
+    requires start { count ≡ 0 → AreUnder b.now.rules symbol places.now }
+    ensures within { IfOk result (λ v. All (λ r. r < length b.now.rules) v.items) }
+    ensures members { IfOk result (λ v. (r : ℕ) → Contains v.items r ↔ (Contains places.now r × HasKidIn b.now.rules count set.now r)) }
+{
+    if count == 0 {
+        return steps.under_from(alloc, b, symbol, set);
+    }
+    with_kid_in(alloc, b.rules(), places, count, set)
+}
+
 /// Whether listed pairs cover each step to the parent that goes on from the choice for so many
 /// children, with listed pairs for these other ones.
 pub(crate) fn choices_are_covered(
     alloc: Global,
     b: &Listed,
+    steps: &StepIndex,
     left: &Matrix,
     right: &Matrix,
     pairs: &[Pair],
     by_state: &RuleIndex,
+    symbol: u32,
     parent: u32,
     count: usize,
     kids: &[u32],
     places: &[u32],
 ) -> Result<bool, AllocError>
+    requires steps { AreListsOf b.now steps.now }
     requires right { length right.now ≡ length b.now.states }
     requires within { AreWithin (length left.now) (length right.now) pairs.now }
     requires by_state { AreByState pairs.now by_state.now }
@@ -126,6 +155,7 @@ pub(crate) fn choices_are_covered(
     requires kids { All (λ q. q < length left.now) kids.now }
     requires count { count + length kids.now < 2 ^ 64 }
     requires places { All (λ r. r < length b.now.rules) places.now }
+    requires start { count ≡ 0 → AreUnder b.now.rules symbol places.now }
     ensures { IfOk result (λ yes. (a : Symbol) (sets : List Row) → length sets ≡ count → AreOpen b.now a sets places.now
         → IsTrue yes ↔ IsChoiceCovered b.now (Holds left.now) (Holds right.now) pairs.now a parent sets kids.now) }
 {
@@ -137,14 +167,16 @@ pub(crate) fn choices_are_covered(
     let list = by_state.at(*kid as usize);
     for k in list {
         let pair = &pairs[*k as usize];
-        let next = with_kid_in(alloc, b.rules(), places, count, &pair.set)?;
+        let next = with_next_kid_in(alloc, b, steps, symbol, places, count, &pair.set)?;
         match choices_are_covered(
             alloc,
             b,
+            steps,
             left,
             right,
             pairs,
             by_state,
+            symbol,
             parent,
             count + 1,
             others,

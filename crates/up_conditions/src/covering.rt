@@ -8,59 +8,34 @@ ghost use Rattle.tree_definitions.specs.Cover.{FitsPair, Post};
 ghost use Rattle.tree_definitions.specs.Relation.{Holds, Row};
 ghost use Rattle.tree_definitions.specs.UpCert.{AreListed, IsCoveredUp};
 ghost use Rattle.trim_ops.specs.Marking as marking;
-ghost use Rattle.up_conditions.specs.Choosing.{AreOpen};
 ghost use Rattle.up_conditions.specs.Covering.{AreLabelled, IsOfPart, IsPartCovered, IsRuleCovered, IsUncoveredLeaf, IsUncoveredPart, IsUncoveredStep};
-ghost use Rattle.up_conditions.specs.Listed.{AreBySymbol, AreByState};
+ghost use Rattle.up_conditions.specs.Listed.{AreByState};
+ghost use Rattle.up_conditions.specs.Stepping.{AreListsOf};
 ghost use Rattle.listed_pairs.specs.Within.{AreWithin};
 ghost use Rattle.listed_pairs.specs.Places.{IsFirst, IsNth};
 
 use crate::by_state::pairs_by_state;
 use crate::choices::choices_are_covered;
-use crate::stepping::rules_by_symbol;
+use crate::step_index::StepIndex;
 use bit_matrix::Matrix;
 use listed_pairs::Pair;
-use ranked_alphabet::Alphabet;
 use std::alloc::{AllocError, Global};
 use ta_model::{Listed, Rule, Symbol};
 use trim_ops::RuleIndex;
-
-/// The places of B's rules under the symbol.
-pub(crate) fn rules_under<'a>(
-    b: &Listed,
-    alphabet: &Alphabet,
-    by_symbol: &'a RuleIndex,
-    symbol: &Symbol,
-) -> &'a [u32]
-    requires alphabet { alphabet.now ≡ b.now.symbols }
-    requires by_symbol { AreBySymbol b.now.rules by_symbol.now }
-    requires symbols { length by_symbol.now ≡ length b.now.symbols }
-    ensures within { All (λ r. r < length b.now.rules) result.now }
-    ensures open { AreOpen b.now symbol.now [] result.now }
-{
-    // The lists of B tell the proof that no symbol stands in them twice.
-    let _symbols = b.symbols();
-    match alphabet.find(symbol) {
-        Some(k) => by_symbol.at(k as usize),
-        None => &[],
-    }
-}
 
 /// Whether listed pairs cover each step of the rule from listed pairs for its children.
 fn rule_is_covered(
     alloc: Global,
     symbols: &[Symbol],
     b: &Listed,
-    alphabet: &Alphabet,
-    by_symbol: &RuleIndex,
+    steps: &StepIndex,
     left: &Matrix,
     right: &Matrix,
     pairs: &[Pair],
     by_state: &RuleIndex,
     rule: &Rule,
 ) -> Result<bool, AllocError>
-    requires alphabet { alphabet.now ≡ b.now.symbols }
-    requires by_symbol { AreBySymbol b.now.rules by_symbol.now }
-    requires symbols { length by_symbol.now ≡ length b.now.symbols }
+    requires steps { AreListsOf b.now steps.now }
     requires right { length right.now ≡ length b.now.states }
     requires within { AreWithin (length left.now) (length right.now) pairs.now }
     requires by_state { AreByState pairs.now by_state.now }
@@ -69,17 +44,20 @@ fn rule_is_covered(
     requires label { rule.now.symbol < length symbols.now }
     ensures { IfOk result (λ yes. IsTrue yes ↔ IsRuleCovered symbols.now b.now (Holds left.now) (Holds right.now) pairs.now rule.now) }
 {
-    let places = rules_under(b, alphabet, by_symbol, &symbols[rule.symbol as usize]);
+    let symbol = steps.place_of(b, &symbols[rule.symbol as usize]);
+    let places = steps.under(b, symbol);
     let kids = rule.kids.as_slice();
     // The number of children tells the proof that their places fit.
     let _count = kids.len();
     choices_are_covered(
         alloc,
         b,
+        steps,
         left,
         right,
         pairs,
         by_state,
+        symbol,
         rule.parent,
         0,
         kids,
@@ -101,17 +79,14 @@ fn part_is_covered(
     leaves: bool,
     symbols: &[Symbol],
     b: &Listed,
-    alphabet: &Alphabet,
-    by_symbol: &RuleIndex,
+    steps: &StepIndex,
     left: &Matrix,
     right: &Matrix,
     pairs: &[Pair],
     by_state: &RuleIndex,
     rule: &Rule,
 ) -> Result<bool, AllocError>
-    requires alphabet { alphabet.now ≡ b.now.symbols }
-    requires by_symbol { AreBySymbol b.now.rules by_symbol.now }
-    requires symbols { length by_symbol.now ≡ length b.now.symbols }
+    requires steps { AreListsOf b.now steps.now }
     requires right { length right.now ≡ length b.now.states }
     requires within { AreWithin (length left.now) (length right.now) pairs.now }
     requires by_state { AreByState pairs.now by_state.now }
@@ -123,9 +98,7 @@ fn part_is_covered(
     if !is_of_part(rule, leaves) {
         return Ok(true);
     }
-    rule_is_covered(
-        alloc, symbols, b, alphabet, by_symbol, left, right, pairs, by_state, rule,
-    )
+    rule_is_covered(alloc, symbols, b, steps, left, right, pairs, by_state, rule)
 }
 
 /// The first rule without children, or with some, that isn't covered.
@@ -135,16 +108,13 @@ fn first_of_part(
     symbols: &[Symbol],
     rules: &[Rule],
     b: &Listed,
-    alphabet: &Alphabet,
-    by_symbol: &RuleIndex,
+    steps: &StepIndex,
     left: &Matrix,
     right: &Matrix,
     pairs: &[Pair],
     by_state: &RuleIndex,
 ) -> Result<Option<u32>, AllocError>
-    requires alphabet { alphabet.now ≡ b.now.symbols }
-    requires by_symbol { AreBySymbol b.now.rules by_symbol.now }
-    requires symbols { length by_symbol.now ≡ length b.now.symbols }
+    requires steps { AreListsOf b.now steps.now }
     requires right { length right.now ≡ length b.now.states }
     requires within { AreWithin (length left.now) (length right.now) pairs.now }
     requires by_state { AreByState pairs.now by_state.now }
@@ -158,7 +128,7 @@ fn first_of_part(
     for i in 0..rules.len() {
         let rule = &rules[i];
         match part_is_covered(
-            alloc, leaves, symbols, b, alphabet, by_symbol, left, right, pairs, by_state, rule,
+            alloc, leaves, symbols, b, steps, left, right, pairs, by_state, rule,
         ) {
             Ok(true) => {}
             Ok(false) => return Ok(Some(i as u32 + 1)),
@@ -186,11 +156,8 @@ fn first_uncovered(
     ensures none { IfOk result (λ first. IfNone first (All (IsPartCovered leaves a.now.symbols b.now (Holds left.now) (Holds right.now) pairs.now) (canon a.now).rules)) }
     ensures some { IfOk result (λ first. IfSome first (IsFirst (IsNth (canon a.now).rules (IsUncoveredPart leaves a.now.symbols b.now (Holds left.now) (Holds right.now) pairs.now)))) }
 {
-    let Ok(alphabet) = Alphabet::of(alloc, b.symbols()) else {
-        return Err(AllocError);
-    };
     let ours = a.canon()?;
-    let by_symbol = rules_by_symbol(alloc, b.rules(), b.symbols().len())?;
+    let steps = StepIndex::of(alloc, b)?;
     let by_state = pairs_by_state(alloc, pairs, left.size())?;
     first_of_part(
         alloc,
@@ -198,8 +165,7 @@ fn first_uncovered(
         ours.symbols(),
         ours.rules(),
         b,
-        &alphabet,
-        &by_symbol,
+        &steps,
         left,
         right,
         pairs,

@@ -6,19 +6,17 @@ ghost use Rattle.tree_definitions.specs.Tree.{Symbol};
 ghost use Rattle.tree_definitions.specs.Cover.{Post};
 ghost use Rattle.tree_definitions.specs.Relation.{Has, Row};
 ghost use Rattle.up_conditions.specs.Choosing.{AreOpen};
-ghost use Rattle.up_conditions.specs.Listed.{AreBySymbol};
+ghost use Rattle.up_conditions.specs.Stepping.{AreListsOf, AreUnder};
 ghost use Rattle.up_conditions.specs.Trailing.{HasSetAt, HasStateAt, IsStepBy};
 
-use crate::choices::{parents_at_end, with_kid_in};
-use crate::covering::rules_under;
+use crate::choices::{parents_at_end, with_next_kid_in};
 use crate::entry::{UpEntry, pair_of};
 use crate::sorted_rules::SortedRules;
+use crate::step_index::StepIndex;
 use bit_rows::Row;
-use ranked_alphabet::Alphabet;
 use smallvec::SmallVec;
 use std::alloc::{AllocError, Global};
 use ta_model::{Kids, Listed, Rule, Symbol};
-use trim_ops::RuleIndex;
 
 /// The states of the entries at these places.
 fn states_at(alloc: Global, entries: &[UpEntry], places: &[u32]) -> Result<Kids, AllocError>
@@ -38,15 +36,19 @@ fn states_at(alloc: Global, entries: &[UpEntry], places: &[u32]) -> Result<Kids,
 fn step_from(
     alloc: Global,
     b: &Listed,
+    steps: &StepIndex,
+    symbol: u32,
     entries: &[UpEntry],
     count: usize,
     named: &[u32],
     places: &[u32],
 ) -> Result<Row, AllocError>
+    requires steps { AreListsOf b.now steps.now }
     requires sets { All (λ e. length e.pair.set ≡ length b.now.states) entries.now }
     requires named { All (λ k. k < length entries.now) named.now }
     requires count { count + length named.now < 2 ^ 64 }
     requires places { All (λ r. r < length b.now.rules) places.now }
+    requires start { count ≡ 0 → AreUnder b.now.rules symbol places.now }
     ensures long { IfOk result (λ row. length row ≡ length b.now.states) }
     ensures members { IfOk result (λ row. (a : Symbol) (sets more : List Row) → length sets ≡ count → AreOpen b.now a sets places.now → AllZip (HasSetAt entries.now) named.now more
         → (s : ℕ) → Has row s ↔ Post b.now a (sets ++ more) s) }
@@ -55,8 +57,8 @@ fn step_from(
         return parents_at_end(alloc, b.states().len(), b.rules(), places, count);
     };
     let pair = pair_of(&entries[*first as usize]);
-    let next = with_kid_in(alloc, b.rules(), places, count, &pair.set)?;
-    step_from(alloc, b, entries, count + 1, others, &next)
+    let next = with_next_kid_in(alloc, b, steps, symbol, places, count, &pair.set)?;
+    step_from(alloc, b, steps, symbol, entries, count + 1, others, &next)
 }
 
 /// Whether one of the rules leads from the states of the named entries to the entry's state.
@@ -86,14 +88,11 @@ pub(crate) fn is_step(
     symbols: &[Symbol],
     rules: &SortedRules,
     b: &Listed,
-    alphabet: &Alphabet,
-    by_symbol: &RuleIndex,
+    steps: &StepIndex,
     entries: &[UpEntry],
     entry: &UpEntry,
 ) -> Result<bool, AllocError>
-    requires alphabet { alphabet.now ≡ b.now.symbols }
-    requires by_symbol { AreBySymbol b.now.rules by_symbol.now }
-    requires symbols { length by_symbol.now ≡ length b.now.symbols }
+    requires steps { AreListsOf b.now steps.now }
     requires sets { All (λ e. length e.pair.set ≡ length b.now.states) entries.now }
     requires set { length entry.now.pair.set ≡ length b.now.states }
     requires named { All (λ k. k < length entries.now) entry.now.kids }
@@ -107,7 +106,8 @@ pub(crate) fn is_step(
     if !has_rule(alloc, rules, entries, entry)? {
         return Ok(false);
     }
-    let places = rules_under(b, alphabet, by_symbol, &symbols[entry.symbol as usize]);
-    let row = step_from(alloc, b, entries, 0, named, places)?;
+    let symbol = steps.place_of(b, &symbols[entry.symbol as usize]);
+    let places = steps.under(b, symbol);
+    let row = step_from(alloc, b, steps, symbol, entries, 0, named, places)?;
     Ok(row.equals(&pair.set))
 }

@@ -1,9 +1,9 @@
 //! The rules of B by symbol and by first child, to look its steps up.
 
 ghost use Rattle.std.specs.Prelude.{◌≡◌, ◌<◌, ◌≤◌, ◌+◌, ◌↔◌, ◌⊎◌, ◌^◌, [], ℕ, All, Contains, IfOk, length};
-ghost use Rattle.tree_definitions.specs.Relation.{Has, IsAt};
+ghost use Rattle.tree_definitions.specs.Automaton.{IsAutomaton};
+ghost use Rattle.tree_definitions.specs.Relation.{Has};
 ghost use Rattle.trim_ops.specs.Marking as marking;
-ghost use Rattle.up_conditions.specs.Choosing.{AreOpen};
 ghost use Rattle.up_conditions.specs.Listed.{AreFiled};
 ghost use Rattle.up_conditions.specs.Stepping.{AreListsOf, AreUnder, IsPlaceOf, IsUnder, IsUnderFrom, first_kid};
 
@@ -97,7 +97,8 @@ impl StepIndex {
     /// The place of the symbol, or the number of symbols where it is none of B's.
     pub(crate) fn place_of(&self, b: &Listed, symbol: &Symbol) -> u32
         requires { AreListsOf b.now self.now }
-        ensures { IsPlaceOf b.now.symbols symbol.now result }
+        ensures place { IsPlaceOf b.now.symbols symbol.now result }
+        ensures automaton { IsAutomaton b.now }
     {
         let count = b.symbols().len();
         match self.alphabet.find(symbol) {
@@ -110,7 +111,8 @@ impl StepIndex {
     pub(crate) fn under<'a>(&'a self, b: &Listed, symbol: u32) -> &'a [u32]
         requires lists { AreListsOf b.now self.now }
         requires symbol { symbol ≤ length b.now.symbols }
-        ensures { AreUnder b.now.rules symbol result.now }
+        ensures under { AreUnder b.now.rules symbol result.now }
+        ensures within { All (λ r. r < length b.now.rules) result.now }
     {
         self.by_symbol.at(symbol as usize)
     }

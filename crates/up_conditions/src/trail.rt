@@ -6,19 +6,18 @@ ghost use Rattle.tree_definitions.specs.Cover.{CoversUp, Rejects};
 ghost use Rattle.tree_definitions.specs.Relation.{Has, Holds, IsAt};
 ghost use Rattle.tree_definitions.specs.UpTrail.{IsUpStep, UpEntry as UpEntrySpec};
 ghost use Rattle.listed_pairs.specs.Places.{IsFirst, IsNth};
-ghost use Rattle.up_conditions.specs.Listed.{AreBySymbol, RejectsBy};
+ghost use Rattle.up_conditions.specs.Listed.{RejectsBy};
+ghost use Rattle.up_conditions.specs.Stepping.{AreListsOf};
 ghost use Rattle.up_conditions.specs.Trailing.{AllAtBefore, AreEntriesWithin, FitEntries, IsCoveredEntry, IsNthAt, IsStepBy, NameEarlier, RejectsEntry};
 
 use crate::entry::{UpEntry, pair_of};
 use crate::entry_steps::is_step;
 use crate::finals::{rejects, row_of};
 use crate::sorted_rules::SortedRules;
-use crate::stepping::rules_by_symbol;
+use crate::step_index::StepIndex;
 use bit_rows::Row;
-use ranked_alphabet::Alphabet;
 use std::alloc::{AllocError, Global};
 use ta_model::{Listed, Symbol};
-use trim_ops::RuleIndex;
 
 /// The first entry that is no step from earlier ones.
 fn first_by_rules(
@@ -26,13 +25,10 @@ fn first_by_rules(
     symbols: &[Symbol],
     rules: &SortedRules,
     b: &Listed,
-    alphabet: &Alphabet,
-    by_symbol: &RuleIndex,
+    steps: &StepIndex,
     entries: &[UpEntry],
 ) -> Result<Option<u32>, AllocError>
-    requires alphabet { alphabet.now ≡ b.now.symbols }
-    requires by_symbol { AreBySymbol b.now.rules by_symbol.now }
-    requires symbols { length by_symbol.now ≡ length b.now.symbols }
+    requires steps { AreListsOf b.now steps.now }
     requires sets { All (λ e. length e.pair.set ≡ length b.now.states) entries.now }
     requires labels { All (λ e. e.symbol < length symbols.now) entries.now }
     requires named { All (λ e. All (λ k. k < length entries.now) e.kids) entries.now }
@@ -42,9 +38,7 @@ fn first_by_rules(
 {
     for i in 0..entries.len() {
         let entry = &entries[i];
-        match is_step(
-            alloc, symbols, rules, b, alphabet, by_symbol, entries, entry,
-        ) {
+        match is_step(alloc, symbols, rules, b, steps, entries, entry) {
             Ok(true) => {}
             Ok(false) => return Ok(Some(i as u32 + 1)),
             Err(_) => return Err(AllocError),
@@ -68,20 +62,9 @@ pub fn first_wrong_step(
     ensures none { IfOk result (λ first. IfNone first ((i : ℕ) (entry : UpEntrySpec) → IsAt entries.now i entry → IsUpStep a.now b.now entries.now i entry)) }
     ensures some { IfOk result (λ first. IfSome first (IsFirst (IsNthAt entries.now (λ i entry. IsUpStep a.now b.now entries.now i entry → ⊥)))) }
 {
-    let Ok(alphabet) = Alphabet::of(alloc, b.symbols()) else {
-        return Err(AllocError);
-    };
     let rules = SortedRules::new(alloc, a.rules())?;
-    let by_symbol = rules_by_symbol(alloc, b.rules(), b.symbols().len())?;
-    first_by_rules(
-        alloc,
-        a.symbols(),
-        &rules,
-        b,
-        &alphabet,
-        &by_symbol,
-        entries,
-    )
+    let steps = StepIndex::of(alloc, b)?;
+    first_by_rules(alloc, a.symbols(), &rules, b, &steps, entries)
 }
 
 /// The first entry whose pair rejects.

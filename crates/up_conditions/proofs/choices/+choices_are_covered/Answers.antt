@@ -3,13 +3,11 @@ use Rattle.std.specs.Prelude.{All}
 use Rattle.std.proofs.lemmas.Bool.{cases_eq}
 use Rattle.std.proofs.lemmas.List.Elements.{All-tail, Contains-get_or}
 use Rattle.std.proofs.lemmas.Option.{slice_get-get_or, slice_get_read, slice_get_within}
-use Rattle.tree_definitions.specs.Automaton.{Rule}
 use Rattle.tree_definitions.specs.Cover.{Pair}
 use Rattle.tree_definitions.specs.Relation.{Holds, IsAt, Row}
 use Rattle.tree_definitions.proofs.Members.{at_unique, place_of}
-use Rattle.trim_ops.specs.Marking.{AreWithin}
 use Rattle.up_conditions.specs.Choosing.{AreOpen, IsChoiceCovered}
-use Rattle.up_conditions.proofs.Chosen.{choice_at, choice_over, next_open, rules_within, sets_one_more}
+use Rattle.up_conditions.proofs.Chosen.{choice_at, choice_over, next_open, sets_one_more}
 use Rattle.up_conditions.proofs.choices.+choices_are_covered.Goals as goal
 
 pub bounds-pairs-k : goal.bounds-pairs-k
@@ -20,8 +18,8 @@ bounds-pairs-k t c =
     let m = c.requires.by_state.within c.in-Some.kid.now list c.at-list.ensures x (Contains-get_or list i 0 c.loop-k-test.true) in
     slice_get_within c.args.pairs.now x m.0 m.1
 
-pub with_kid_in-requires-clause-rules : goal.with_kid_in-requires-clause-rules
-with_kid_in-requires-clause-rules t c =
+pub with_next_kid_in-requires-clause-set : goal.with_next_kid_in-requires-clause-set
+with_next_kid_in-requires-clause-set t c =
     let pairs = c.args.pairs.now in
     let B = c.args.b.now in
     let list = c.at-list.result.now in
@@ -33,9 +31,7 @@ with_kid_in-requires-clause-rules t c =
     let at : IsAt pairs x c.index-pairs-k.result = slice_get_read pairs (length pairs) x c.index-pairs-k.result refl l c.index-pairs-k.is in
     let long = (c.requires.within x c.index-pairs-k.result l).set in
     let read : get_or pairs x c.index-pairs-k.result ≡ c.index-pairs-k.result = sym c.index-pairs-k.is in
-    let size : length c.pair.inside.set ≡ length B.states = ap (λ (s : Row). length s) its ∙ sym (ap (λ (o : Pair). length o.set) read) ∙ long ∙ c.requires.right in
-    subst (λ (rs : List Rule). AreWithin (length c.pair.inside.set) rs) (sym c.rules.ensures.value)
-    (subst (λ n. AreWithin n B.rules) (sym size) (rules_within B c.rules.ensures.listed.automaton))
+    ap (λ (s : Row). length s) its ∙ sym (ap (λ (o : Pair). length o.set) read) ∙ long ∙ c.requires.right
 
 pub choices_are_covered-requires : goal.choices_are_covered-requires
 choices_are_covered-requires t c =
@@ -46,32 +42,11 @@ choices_are_covered-requires t c =
     let size = ap (λ (xs : List ℕ). length xs) split in
     let count = c.requires.count in
     let Below : ℕ → Type 0 = λ q. q < length c.args.left.now in
-    let falls = c.decreases in (
-      omega (arith, falls, size),
-      (
-        c.requires.right,
-        (
-          c.requires.within,
-          (
-            c.requires.by_state,
-            (
-              c.requires.index,
-              (
-                c.requires.parent,
-                (
-                  All-tail Below first others (subst (λ (xs : List ℕ). All Below xs) split c.requires.kids),
-                  (
-                    omega (arith, count, size),
-                    subst (λ (xs : List ℕ). All (λ r. r < length B.rules) xs) (sym c.deref.ensures.value)
-                        (subst (λ (rs : List Rule). All (λ r. r < length rs) c.in_ok-next.next.items) c.rules.ensures.value c.in_ok-next.ensures.within),
-                  ),
-                ),
-              ),
-            ),
-          ),
-        ),
-      ),
-    )
+    let falls = c.decreases in
+    let inside = All-tail Below first others (subst (λ (xs : List ℕ). All Below xs) split c.requires.kids) in
+    let open_rules = subst (λ (xs : List ℕ). All (λ r. r < length B.rules) xs) (sym c.deref.ensures.value) c.in_ok-next.ensures.within in
+    let q = c.requires in
+    (omega (arith, falls, size), (q.steps, (q.right, (q.within, (q.by_state, (q.index, (q.parent, (inside, (omega (arith, count, size), (open_rules, λ none. absurd (omega (arith, none))))))))))))
 
 pub returns-in-Ok-false : goal.returns-in-Ok-false
 returns-in-Ok-false t c a sets size leaves = (
@@ -95,7 +70,7 @@ returns-in-Ok-false t c a sets size leaves = (
       let same : m.0 ≡ c.index-pairs-k.result = at_unique pairs x m.0 c.index-pairs-k.result m.1 at in
       let state : c.index-pairs-k.result.state ≡ first = subst (λ (o : Pair). o.state ≡ first) same m.2 in
       let P = c.pair.inside.set in
-      let next = next_open B c.rules.result.now c.rules.ensures.value a sets count size c.args.places.now c.in_ok-next.next.items P c.in_ok-next.ensures.members leaves in
+      let next = next_open B B.rules refl a sets count size c.args.places.now c.in_ok-next.next.items P c.in_ok-next.ensures.members leaves in
       let longer = choice_at B RA RB pairs a p sets first others x c.index-pairs-k.result P at state its (subst (λ (xs : List ℕ). IsChoiceCovered B RA RB pairs a p sets xs) split h) in
       let so = (c.in-Ok-false.ensures a (sets ++ P ∷ []) (sets_one_more sets P count size) (subst (AreOpen B a (sets ++ P ∷ [])) (sym c.deref.ensures.value) next)).1 longer in
       sym c.in-Ok-false.field-0-test ∙ so,
@@ -122,7 +97,7 @@ loop-k-preserved t c j k pair l kat pat a sets size leaves =
     let at : IsAt pairs x c.index-pairs-k.result = slice_get_read pairs (length pairs) x c.index-pairs-k.result refl (slice_get_within pairs x pair here) c.index-pairs-k.is in
     let same : c.index-pairs-k.result ≡ pair = at_unique pairs x c.index-pairs-k.result pair at here in
     let P = c.pair.inside.set in
-    let next = next_open B c.rules.result.now c.rules.ensures.value a sets count size c.args.places.now c.in_ok-next.next.items P c.in_ok-next.ensures.members leaves in
+    let next = next_open B B.rules refl a sets count size c.args.places.now c.in_ok-next.next.items P c.in_ok-next.ensures.members leaves in
     let so = (c.in-Ok-true.ensures a (sets ++ P ∷ []) (sets_one_more sets P count size) (subst (AreOpen B a (sets ++ P ∷ [])) (sym c.deref.ensures.value) next)).0 c.in-Ok-true.field-0-test in
     subst (λ (S : Row). IsChoiceCovered B RA RB pairs a p (sets ++ S ∷ []) others) (its ∙ ap (λ (o : Pair). o.set) same) so)
     (λ (d : j ≢ i). c.loop-k.invariant j k pair (omega (arith, l, d)) kat pat a sets size leaves)

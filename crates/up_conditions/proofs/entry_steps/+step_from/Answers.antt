@@ -5,7 +5,6 @@ use Rattle.std.proofs.lemmas.List.Elements.{All-head, All-tail}
 use Rattle.std.proofs.lemmas.Option.{slice_get_read}
 use Rattle.std.proofs.lemmas.Result.{IfOk-weaker}
 use Rattle.tree_definitions.specs.Tree.{Symbol}
-use Rattle.tree_definitions.specs.Automaton.{Rule}
 use Rattle.tree_definitions.specs.Cover.{Pair, Post}
 use Rattle.tree_definitions.specs.Relation.{Has, IsAt, Row}
 use Rattle.tree_definitions.specs.UpTrail.{UpEntry}
@@ -41,20 +40,10 @@ step_from-requires t c =
     let split : c.args.named.now ≡ first ∷ others = c.in-Some.ensures.cases.0 in
     let size = ap (λ (xs : List ℕ). length xs) split in
     let count = c.requires.count in
-    let falls = c.decreases in (
-      omega (arith, falls, size),
-      (
-        c.requires.sets,
-        (
-          All-tail (λ k. k < length entries) first others (subst (λ (xs : List ℕ). All (λ k. k < length entries) xs) split c.requires.named),
-          (
-            omega (arith, count, size),
-            subst (λ (xs : List ℕ). All (λ r. r < length B.rules) xs) (sym c.deref.ensures.value)
-                (subst (λ (rs : List Rule). All (λ r. r < length rs) c.in_ok-next.next.items) c.rules-2.ensures.value c.in_ok-next.ensures.within),
-          ),
-        ),
-      ),
-    )
+    let falls = c.decreases in
+    let inside = All-tail (λ k. k < length entries) first others (subst (λ (xs : List ℕ). All (λ k. k < length entries) xs) split c.requires.named) in
+    let open_rules = subst (λ (xs : List ℕ). All (λ r. r < length B.rules) xs) (sym c.deref.ensures.value) c.in_ok-next.ensures.within in
+    (omega (arith, falls, size), (c.requires.steps, (c.requires.sets, (inside, (omega (arith, count, size), (open_rules, λ none. absurd (omega (arith, none))))))))
 
 pub returns-clause-members : goal.returns-clause-members
 returns-clause-members t c =
@@ -76,7 +65,7 @@ returns-clause-members t c =
     (λ row exact a sets more size leaves zip s.
     let z = zip_first (HasSetAt entries) first others more (subst (λ (ks : List ℕ). AllZip (HasSetAt entries) ks more) split zip) in
     let same : P ≡ z.0 = its ∙ ap (λ (o : UpEntry). o.pair.set) (at_unique entries first e z.3.0 at z.3.1) ∙ z.3.2 in
-    let next = next_open B c.rules-2.result.now c.rules-2.ensures.value a sets count size list c.in_ok-next.next.items P c.in_ok-next.ensures.members leaves in
+    let next = next_open B B.rules refl a sets count size list c.in_ok-next.next.items P c.in_ok-next.ensures.members leaves in
     let so = exact a (sets ++ P ∷ []) z.1 (sets_one_more sets P count size) (subst (AreOpen B a (sets ++ P ∷ [])) (sym c.deref.ensures.value) next) z.4 s in
     let all : (sets ++ P ∷ []) ++ z.1 ≡ sets ++ more = append_one sets P z.1 ∙ ap (λ (Q : Row). sets ++ Q ∷ z.1) same ∙ ap (λ (l : List Row). sets ++ l) (sym z.2) in
     subst (λ (Ps : List Row). Has row s ↔ Post B a Ps s) all so)

@@ -6,6 +6,8 @@ use Rattle.tree_definitions.specs.Cover.{Pair, Post}
 use Rattle.tree_definitions.specs.Relation.{AreEqual, Has, IsAt, Row}
 use Rattle.tree_definitions.specs.UpTrail.{UpEntry}
 use Rattle.tree_definitions.proofs.Members.{at_unique}
+use Rattle.up_conditions.specs.Choosing.{AreOpen}
+use Rattle.up_conditions.proofs.Looked.{under_open}
 use Rattle.up_conditions.specs.Trailing.{HasSetAt}
 use Rattle.up_conditions.proofs.Named.{same_row, same_sets, sets_at, states_all}
 use Rattle.up_conditions.proofs.entry_steps.is_step.Goals as goal
@@ -34,7 +36,9 @@ returns c =
     let row = c.in_ok-row.row in
     let sets = sets_at entries entry.kids c.requires.named in
     let zip = subst (λ (ks : List ℕ). AllZip (HasSetAt entries) ks sets.0) (sym named) sets.1 in
-    let members : (s : ℕ) → Has row s ↔ Post B label sets.0 s = c.in_ok-row.ensures.members label [] sets.0 refl c.rules_under-places.ensures.open zip in
+    let list = c.under-places.result.now in
+    let starts : AreOpen B label [] list = under_open B c.place_of-symbol.ensures.automaton label c.place_of-symbol.result list c.place_of-symbol.ensures.place c.under-places.ensures.under in
+    let members : (s : ℕ) → Has row s ↔ Post B label sets.0 s = c.in_ok-row.ensures.members label [] sets.0 refl starts zip in
     let long : length row ≡ length entry.pair.set = c.in_ok-row.ensures.long ∙ sym c.requires.set in (
       λ t.
           let states = states_all entries entry.kids c.requires.named in

@@ -17,11 +17,11 @@ returns-clause-none c =
     let B = c.args.b.now in
     let entries = c.args.entries.now in
     let rules = c.in_ok-rules.rules in
-    let symbols = c.symbols-3.result.now in
+    let symbols = c.symbols.result.now in
     let same : (rule : Rule) → Contains rules rule ↔ Contains A.rules rule = subst (λ (rs : List Rule). (rule : Rule) → Contains rules rule ↔ Contains rs rule) c.rules.ensures.value c.in_ok-rules.ensures in
     IfOk-weaker c.first_by_rules.result (λ first. IfNone first (All (IsStepBy symbols rules B entries) entries))
     (λ first. IfNone first ((i : ℕ) (entry : UpEntry) → IsAt entries i entry → IsUpStep A B entries i entry))
-    (λ first n. IfNone_then first (all_steps A B c.rules.ensures.listed.automaton rules same symbols c.symbols-3.ensures.value entries c.requires.named) n)
+    (λ first n. IfNone_then first (all_steps A B c.rules.ensures.listed.automaton rules same symbols c.symbols.ensures.value entries c.requires.named) n)
     c.first_by_rules.ensures.none
 
 pub returns-clause-some : goal.returns-clause-some
@@ -30,9 +30,9 @@ returns-clause-some c =
     let B = c.args.b.now in
     let entries = c.args.entries.now in
     let rules = c.in_ok-rules.rules in
-    let symbols = c.symbols-3.result.now in
+    let symbols = c.symbols.result.now in
     let same : (rule : Rule) → Contains rules rule ↔ Contains A.rules rule = subst (λ (rs : List Rule). (rule : Rule) → Contains rules rule ↔ Contains rs rule) c.rules.ensures.value c.in_ok-rules.ensures in
     IfOk-weaker c.first_by_rules.result (λ first. IfSome first (IsFirst (IsNth entries (λ (e : UpEntry). ¬ IsStepBy symbols rules B entries e))))
     (λ first. IfSome first (IsFirst (IsNthAt entries (λ i (entry : UpEntry). ¬ IsUpStep A B entries i entry))))
-    (λ first h. IfSome_then first h (first_no_step A B c.rules.ensures.listed.automaton rules same symbols c.symbols-3.ensures.value entries c.requires.named))
+    (λ first h. IfSome_then first h (first_no_step A B c.rules.ensures.listed.automaton rules same symbols c.symbols.ensures.value entries c.requires.named))
     c.first_by_rules.ensures.some
