@@ -1,7 +1,7 @@
-//! The conditions of an upward certificate, each judged by a call of its own.
+//! The conditions of upward certificates and trails, each judged by a call of its own.
 //!
-//! A certificate lists pairs of a state of A and a set of states of B. What fails is told by its
-//! place, counted from 1.
+//! A certificate lists pairs of a state of A and a set of states of B, and an entry of a trail is a
+//! pair with the step to it from earlier ones. What fails is told by its place, counted from 1.
 #![tactic(auto)]
 
 mod apart;
