@@ -1,5 +1,5 @@
 -- From places of covering pairs to certificates, and rules without children.
-use Rattle.std.proofs.Common.{◌≡◌, ◌≢◌, ℕ, ◌+◌, List, [], ◌∷◌, length, refl, subst, arith, ⊎_elim}
+use Rattle.std.proofs.Common.{◌≡◌, ◌≢◌, ℕ, ◌+◌, Bool, true, false, List, [], ◌∷◌, length, refl, subst, arith, ⊎_elim}
 use Rattle.std.specs.Prelude.{All}
 use Rattle.std.proofs.lemmas.Bool.{cases_eq}
 use Rattle.std.proofs.lemmas.List.Elements.{All-contains}
@@ -13,7 +13,7 @@ use Rattle.tree_definitions.specs.UpCert.{IsCoveredUp, AreListed}
 use Rattle.tree_definitions.proofs.Members.{at_unique, contains_at, place_of}
 use Rattle.trim_ops.proofs.SameRules.{rule_in}
 use Rattle.up_conditions.specs.Listed.{IsCoveredElsewhere}
-use Rattle.up_conditions.specs.Covering.{AllBefore, IsLeafCovered}
+use Rattle.up_conditions.specs.Covering.{AllBefore, IsOfPart, IsPartCovered}
 
 module _ (RA RB : Relation) (X : List Pair) (p : ℕ) (P Q : Places) (to : (s : ℕ) → P s → Q s) where
   pub covered_up : (skip : ℕ) → IsCoveredElsewhere RA RB X skip p P → IsCoveredUp RA RB X p Q
@@ -25,13 +25,24 @@ module _ (RA RB : Relation) (X : List Pair) (p : ℕ) (P Q : Places) (to : (s : 
       let w = slice_get_within X k.0 h.0 k.1 in
       (k.0, h.0, (λ e. omega (arith, w, e)), k.1, record { state = h.2.state; set = λ s m. let n = h.2.set s m in (n.0, to n.0 n.1, n.2) })
 
-pub no_sets : (X : List Pair) (sets : List Row) → AreListed X [] sets → sets ≡ []
-no_sets X [] h = refl
-no_sets X (s ∷ ss) h = absurd h
+dec_part : (leaves : Bool) (rule : Rule) → Dec (IsOfPart leaves rule)
+dec_part true rule = by_kids rule.kids
+  where
+    by_kids : (kids : List ℕ) → Dec (kids ≡ [])
+    by_kids [] = yes refl
+    by_kids (q ∷ qs) = no (λ e. absurd cc)
+dec_part false rule = by_kids rule.kids
+  where
+    by_kids : (kids : List ℕ) → Dec (kids ≢ [])
+    by_kids [] = no (λ n. n refl)
+    by_kids (q ∷ qs) = yes (λ e. absurd cc)
 
-pub leaf_apart : (P : Type 0) (kids : List ℕ) → ¬ (kids ≡ [] → P) → (kids ≡ []) × ¬ P
-leaf_apart P [] n = (refl, λ p. n (λ e. p))
-leaf_apart P (q ∷ qs) n = absurd (n (λ e. absurd cc))
+pub part_apart : (leaves : Bool) (P : Type 0) (rule : Rule) → ¬ (IsOfPart leaves rule → P) → IsOfPart leaves rule × ¬ P
+part_apart leaves P rule n = go (dec_part leaves rule)
+  where
+    go : Dec (IsOfPart leaves rule) → IsOfPart leaves rule × ¬ P
+    go (yes h) = (h, λ p. n (λ _. p))
+    go (no m) = absurd (n (λ h. absurd (m h)))
 
 pub before_next : {Y : Type 0} (xs : List Y) (Kind : Y → Type 0) (i : ℕ) (x : Y) → AllBefore xs Kind i → IsAt xs i x → Kind x → AllBefore xs Kind (i + 1)
 before_next xs Kind i x all at h j y l jat = ⊎_elim
@@ -39,10 +50,18 @@ before_next xs Kind i x all at h j y l jat = ⊎_elim
     (λ (d : j ≢ i). all j y (omega arith) jat)
     (cases_eq j i)
 
-pub leaves_covered : (A B : Automaton) (RA RB : Relation) (X : List Pair) → All (IsLeafCovered A.symbols B RA RB X) (canon A).rules
+pub leaves_covered : (A B : Automaton) (RA RB : Relation) (X : List Pair) → All (IsPartCovered true A.symbols B RA RB X) (canon A).rules
     → (a : Symbol) (p : ℕ) → HasRule A a [] p → IsCoveredUp RA RB X p (Post B a [])
 unfolding IsRule IsLabel
 leaves_covered A B RA RB X all a p has =
     let h = rule_in A a [] p has in
     let line : Rule = record { symbol = h.1.0; kids = []; parent = p } in
-    All-contains (IsLeafCovered A.symbols B RA RB X) (canon A).rules line all (contains_at (canon A).rules h.0 line h.1.2) refl a h.1.1 [] tt
+    All-contains (IsPartCovered true A.symbols B RA RB X) (canon A).rules line all (contains_at (canon A).rules h.0 line h.1.2) refl a h.1.1 [] tt
+
+pub steps_covered : (A B : Automaton) (RA RB : Relation) (X : List Pair) → All (IsPartCovered false A.symbols B RA RB X) (canon A).rules
+    → (a : Symbol) (q : ℕ) (qs : List ℕ) (p : ℕ) → HasRule A a (q ∷ qs) p → (sets : List Row) → AreListed X (q ∷ qs) sets → IsCoveredUp RA RB X p (Post B a sets)
+unfolding IsRule IsLabel
+steps_covered A B RA RB X all a q qs p has =
+    let h = rule_in A a (q ∷ qs) p has in
+    let line : Rule = record { symbol = h.1.0; kids = q ∷ qs; parent = p } in
+    All-contains (IsPartCovered false A.symbols B RA RB X) (canon A).rules line all (contains_at (canon A).rules h.0 line h.1.2) (λ e. absurd cc) a h.1.1

@@ -9,7 +9,7 @@ use Rattle.tree_definitions.specs.Relation.{IsAt}
 use Rattle.tree_definitions.proofs.Members.{at_unique}
 use Rattle.up_conditions.specs.Listed.{Filing}
 
-at_set : (xs : List (List ℕ)) (i : ℕ) (v : List ℕ) (j : ℕ) (y : List ℕ) → IsAt (set xs i v) j y → ((j ≡ i) × (y ≡ v)) ⊎ ((j ≢ i) × IsAt xs j y)
+pub at_set : (xs : List (List ℕ)) (i : ℕ) (v : List ℕ) (j : ℕ) (y : List ℕ) → IsAt (set xs i v) j y → ((j ≡ i) × (y ≡ v)) ⊎ ((j ≢ i) × IsAt xs j y)
 at_set [] i v j y e = absurd cc
 at_set (x ∷ xs) zero v zero y e = let s : v ≡ y = cc in inl (refl, sym s)
 at_set (x ∷ xs) zero v (suc j) y e = inr (omega arith, e)

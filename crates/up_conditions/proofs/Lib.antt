@@ -1,6 +1,12 @@
 pub mod Grouped
+pub mod Named
+pub mod OneWide
 pub mod Others
 pub mod Rejecting
 pub mod Simulating
+pub mod Searched
 pub mod Stepped
 pub mod Covered
+pub mod Filtered
+pub mod Looked
+pub mod Chosen

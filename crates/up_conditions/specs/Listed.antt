@@ -1,5 +1,5 @@
 -- Listed pairs, by rows and relations.
-use Rattle.std.specs.Prelude.{◌≡◌, ◌≢◌, ℕ, ◌<◌, List, All, Contains, length}
+use Rattle.std.specs.Prelude.{◌≡◌, ◌≢◌, ℕ, ◌<◌, List, Contains, length}
 use Rattle.tree_definitions.specs.Automaton.{Rule}
 use Rattle.tree_definitions.specs.Relation.{Relation, Places, Row, Has, IsAt, Below}
 use Rattle.tree_definitions.specs.Cover.{Pair, CoversUp}

@@ -8,8 +8,8 @@ ghost use Rattle.listed_pairs.specs.Within.{AreWithin};
 ghost use Rattle.listed_pairs.specs.Places.{IsFirst, IsNth};
 
 use crate::by_state::{is_covered, pairs_by_state};
-use listed_pairs::Pair;
 use bit_matrix::Matrix;
+use listed_pairs::Pair;
 use std::alloc::{AllocError, Global};
 use trim_ops::RuleIndex;
 

@@ -6,9 +6,9 @@ ghost use Rattle.tree_definitions.specs.Relation.{Below, Has, Holds, IsAt};
 ghost use Rattle.up_conditions.specs.Listed.{AreByState, IsCoveredElsewhere, IsCoveredIn};
 ghost use Rattle.listed_pairs.specs.Within.{AreWithin};
 
-use listed_pairs::Pair;
 use bit_matrix::Matrix;
 use bit_rows::Row;
+use listed_pairs::Pair;
 use std::alloc::{AllocError, Global};
 use trim_ops::RuleIndex;
 

@@ -7,8 +7,8 @@ ghost use Rattle.listed_pairs.specs.Places.{IsFirst, IsNth};
 ghost use Rattle.up_conditions.specs.Listed.{RejectsBy};
 ghost use Rattle.listed_pairs.specs.Within.{AreWithin};
 
-use listed_pairs::Pair;
 use bit_rows::Row;
+use listed_pairs::Pair;
 use std::alloc::{AllocError, Global};
 use ta_model::Listed;
 
@@ -26,7 +26,7 @@ pub(crate) fn row_of(alloc: Global, places: &[u32], n: usize) -> Result<Row, All
 }
 
 /// Whether the pair's state is final and its set has no final state.
-fn rejects(left: &Row, right: &Row, pair: &Pair) -> bool
+pub(crate) fn rejects(left: &Row, right: &Row, pair: &Pair) -> bool
     requires state { pair.now.state < length left.now }
     requires set { length pair.now.set ≡ length right.now }
     ensures { IsTrue result ↔ RejectsBy left.now right.now pair.now }

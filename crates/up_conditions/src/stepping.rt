@@ -8,8 +8,8 @@ ghost use Rattle.trim_ops.specs.Marking.{AreWithin, IsWithin};
 ghost use Rattle.up_conditions.specs.Listed.{AreBySymbol};
 ghost use Rattle.up_conditions.specs.Stepping.{AreInSets, AreSets, IsParentAt};
 
-use listed_pairs::Pair;
 use bit_rows::Row;
+use listed_pairs::Pair;
 use ranked_alphabet::Alphabet;
 use std::alloc::{AllocError, Global};
 use ta_model::{Listed, Rule, Symbol};

@@ -1,40 +1,9 @@
-use Rattle.std.proofs.Common.{◌<◌, ℕ, List, [], length, sym, ap, ◌∙◌, subst, arith}
-use Rattle.std.specs.Prelude.{All, IfNone}
-use Rattle.std.proofs.lemmas.List.Elements.{All-weaker}
-use Rattle.std.proofs.lemmas.Option.{slice_get_within}
 use Rattle.std.proofs.lemmas.Result.{IfOk-weaker}
-use Rattle.tree_definitions.specs.Tree.{Symbol}
-use Rattle.tree_definitions.specs.Automaton.{Automaton, Rule, HasRule, FitsRule}
-use Rattle.tree_definitions.specs.Canonical.{canon}
-use Rattle.tree_definitions.specs.Cover.{Post}
 use Rattle.tree_definitions.specs.Relation.{Holds}
-use Rattle.tree_definitions.specs.UpCert.{IsCoveredUp}
-use Rattle.up_conditions.specs.Covering.{AreLabelled, IsLeafCovered}
 use Rattle.up_conditions.proofs.Covered.{leaves_covered}
 use Rattle.listed_pairs.proofs.Firsts.{IfNone_then}
 use Rattle.up_conditions.proofs.covering.first_uncovered_leaf.Goals as goal
 
-pub first_leaf-requires-clause-labels : goal.first_leaf-requires-clause-labels
-first_leaf-requires-clause-labels c =
-    let O = c.in_ok-ours.ours in
-    let n = length c.symbols-3.result.now in
-    let long = ap (λ (xs : List Symbol). length xs) c.symbols-3.ensures.value in
-    let within : AreLabelled n O.rules = All-weaker (FitsRule O) (λ (r : Rule). r.symbol < n)
-    (λ r f. let w = slice_get_within O.symbols r.symbol f.symbol.0 f.symbol.1 in omega (arith, w, long)) O.rules c.rules-2.ensures.listed.automaton.fitting in
-    subst (AreLabelled n) (sym c.rules-2.ensures.value) within
-
 pub returns-clause-none : goal.returns-clause-none
 returns-clause-none c =
-    let A = c.args.a.now in
-    let B = c.args.b.now in
-    let RA = Holds c.args.left.now in
-    let RB = Holds c.args.right.now in
-    let X = c.args.pairs.now in
-    let symbols = c.symbols-3.ensures.value ∙ ap (λ (o : Automaton). o.symbols) c.in_ok-ours.ensures in
-    let rules = c.rules-2.ensures.value ∙ ap (λ (o : Automaton). o.rules) c.in_ok-ours.ensures in
-    IfOk-weaker c.first_leaf.result (λ first. IfNone first (All (IsLeafCovered c.symbols-3.result.now B RA RB X) c.rules-2.result.now))
-    (λ first. IfNone first ((x : Symbol) (p : ℕ) → HasRule A x [] p → IsCoveredUp RA RB X p (Post B x [])))
-    (λ first n. IfNone_then first
-    (λ all. leaves_covered A B RA RB X (subst (λ (ss : List Symbol). All (IsLeafCovered ss B RA RB X) (canon A).rules) symbols (subst (All (IsLeafCovered c.symbols-3.result.now B RA RB X)) rules all)))
-    n)
-    c.first_leaf.ensures.none
+    IfOk-weaker c.first_uncovered.result _ _ (λ first n. IfNone_then first (leaves_covered c.args.a.now c.args.b.now (Holds c.args.left.now) (Holds c.args.right.now) c.args.pairs.now) n) c.first_uncovered.ensures.none

@@ -1,0 +1,47 @@
+-- The automaton with one rule, from its one state twice to that state, is well formed.
+use Rattle.std.proofs.Common.{◌≢◌, ◌<◌, ℕ, List, [], ◌∷◌, refl, arith}
+use Rattle.std.specs.Prelude.{All, AllPairs}
+use Rattle.std.proofs.lemmas.List.Elements.{All-cons, All-nil}
+use Rattle.tree_definitions.specs.Tree.{Symbol}
+use Rattle.tree_definitions.specs.Automaton.{Automaton, Rule, IsAutomaton, FitsRule}
+use Rattle.tree_definitions.specs.Name.{IsName}
+use Rattle.ta_model.specs.Listing.{IsListed}
+
+single : {X : Type 0} (P : X → Type 0) (x : X) → P x → All P (x ∷ [])
+single P x p = All-cons P x [] p (All-nil P)
+
+alone : {X : Type 0} (x : X) → AllPairs ◌≢◌ (x ∷ [])
+alone x i j d below within same = absurd (omega arith)
+
+-- the automaton with this name, this state and this symbol
+abbrev pub wide : List ℕ → List ℕ → List ℕ → Automaton
+wide title state name = record {
+  name = title;
+  symbols = record { name = name; rank = 2 } ∷ [];
+  states = state ∷ [];
+  finals = 0 ∷ [];
+  rules = record { symbol = 0; kids = 0 ∷ 0 ∷ []; parent = 0 } ∷ [];
+}
+
+pub wide_rule : (title state name : List ℕ) → IsName title → IsName state → IsName name → IsListed (wide title state name)
+wide_rule title state name t s l =
+    let a : Symbol = record { name = name; rank = 2 } in
+    let line : Rule = record { symbol = 0; kids = 0 ∷ 0 ∷ []; parent = 0 } in
+    let fits : FitsRule (wide title state name) line = record { symbol = (a, refl, refl); kids = All-cons (λ q. q < 1) 0 (0 ∷ []) (omega arith) (single (λ q. q < 1) 0 (omega arith)); parent = omega arith } in
+    let automaton : IsAutomaton (wide title state name) = record {
+      symbols = alone a;
+      states = alone state;
+      finals = alone 0;
+      rules = alone line;
+      final_states = single (λ q. q < 1) 0 (omega arith);
+      fitting = single (FitsRule (wide title state name)) line fits;
+    } in
+    record {
+      automaton = automaton;
+      name = t;
+      symbol_names = single (λ b. IsName b.name) a l;
+      state_names = single IsName state s;
+      few_symbols = omega arith;
+      few_states = omega arith;
+      few_rules = omega arith;
+    }

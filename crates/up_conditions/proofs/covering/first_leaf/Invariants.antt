@@ -1,6 +1,0 @@
-use Rattle.tree_definitions.specs.Relation.{Holds}
-use Rattle.up_conditions.specs.Covering.{AllBefore, IsLeafCovered}
-use Rattle.up_conditions.proofs.covering.first_leaf.Given as goal
-
-abbrev pub invariant-loop-i : goal.invariant-loop-i
-invariant-loop-i l = AllBefore l.rules (IsLeafCovered l.symbols l.b (Holds l.left) (Holds l.right) l.pairs) l.i
