@@ -1,0 +1,4 @@
+pub mod Pushed
+pub mod Filed
+pub mod Others
+pub mod Shifting

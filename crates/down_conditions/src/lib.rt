@@ -5,9 +5,11 @@
 #![tactic(auto)]
 
 mod apart;
+mod by_state;
 mod choices;
 mod downward;
 mod finals;
+mod shift;
 
 pub use apart::first_covered;
 pub use choices::first_refuted;
