@@ -1,4 +1,7 @@
-pub mod Pushed
+pub mod Blocks
+pub mod Bounded
 pub mod Filed
 pub mod Others
+pub mod Pushed
 pub mod Shifting
+pub mod Zips

@@ -1,3 +1,4 @@
+pub mod Between
 pub mod Covering
 pub mod Filing
 pub mod Refuting

@@ -5,6 +5,7 @@
 #![tactic(auto)]
 
 mod apart;
+mod between;
 mod by_state;
 mod choices;
 mod downward;
