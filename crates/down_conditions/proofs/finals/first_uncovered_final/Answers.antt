@@ -29,10 +29,10 @@ returns-clause-none c =
     let B = c.args.b.now in
     let R = Holds c.args.both.now in
     let pairs = c.args.pairs.now in
-    let wides = c.in_ok-wides.wides.items in
+    let wides = c.deref-2.result.now in
     let row = c.in_ok-row.row in
     let long = ap (λ (xs : List (List ℕ)). length xs) c.states-m.ensures.value in
-    let are : AreShifted (length A.states) pairs wides = subst (λ n. AreShifted n pairs wides) long c.in_ok-wides.ensures.shifted in
+    let are : AreShifted (length A.states) pairs wides = subst (λ n. AreShifted n pairs wides) long (subst (AreShifted (length c.states-m.result.now) pairs) (sym c.deref-2.ensures.value) c.in_ok-wides.ensures.shifted) in
     let theirs : (s : ℕ) → Has row s ↔ Shifted (length A.states) (IsFinal B) s =
     subst (λ (xs : List ℕ). (s : ℕ) → Has row s ↔ Shifted (length A.states) (Contains xs) s) c.finals.ensures.value
     (subst (λ n. (s : ℕ) → Has row s ↔ Shifted n (Contains c.finals.result.now) s) long c.in_ok-row.ensures.members) in
@@ -47,10 +47,10 @@ returns-clause-some c =
     let B = c.args.b.now in
     let R = Holds c.args.both.now in
     let pairs = c.args.pairs.now in
-    let wides = c.in_ok-wides.wides.items in
+    let wides = c.deref-2.result.now in
     let row = c.in_ok-row.row in
     let long = ap (λ (xs : List (List ℕ)). length xs) c.states-m.ensures.value in
-    let are : AreShifted (length A.states) pairs wides = subst (λ n. AreShifted n pairs wides) long c.in_ok-wides.ensures.shifted in
+    let are : AreShifted (length A.states) pairs wides = subst (λ n. AreShifted n pairs wides) long (subst (AreShifted (length c.states-m.result.now) pairs) (sym c.deref-2.ensures.value) c.in_ok-wides.ensures.shifted) in
     let theirs : (s : ℕ) → Has row s ↔ Shifted (length A.states) (IsFinal B) s =
     subst (λ (xs : List ℕ). (s : ℕ) → Has row s ↔ Shifted (length A.states) (Contains xs) s) c.finals.ensures.value
     (subst (λ n. (s : ℕ) → Has row s ↔ Shifted n (Contains c.finals.result.now) s) long c.in_ok-row.ensures.members) in
