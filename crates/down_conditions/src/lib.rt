@@ -8,8 +8,10 @@ mod apart;
 mod between;
 mod by_state;
 mod choices;
+mod downs;
 mod downward;
 mod finals;
+mod search;
 mod shift;
 
 pub use apart::first_covered;
