@@ -49,3 +49,12 @@ module _ (B : Automaton) (fits : IsAutomaton B) (lists : List (List ℕ)) (index
 
   pub chosen_downs : AreDowns B a set chosen
   chosen_downs tuple = (chosen_down tuple, down_chosen tuple)
+
+-- a rule as a line
+pub line_of : (A : Automaton) (a : Symbol) (kids : List ℕ) (q : ℕ) → HasRule A a kids q
+    → (r : ℕ) × (rule : Rule) × IsAt A.rules r rule × IsAt A.symbols rule.symbol a × (rule.kids ≡ kids) × (rule.parent ≡ q)
+unfolding IsRule IsLabel
+line_of A a kids q (r, (k, label, at)) = (r, record { symbol = k; kids = kids; parent = q }, at, label, refl, refl)
+
+pub rule_of : (A : Automaton) (r : ℕ) (rule : Rule) (a : Symbol) (q : ℕ) → IsAt A.rules r rule → IsAt A.symbols rule.symbol a → rule.parent ≡ q → HasRule A a rule.kids q
+rule_of A r rule a q at aat e = subst (HasRule A a rule.kids) e (r, rule_of_line A r rule a at (label_at A rule.symbol a aat))

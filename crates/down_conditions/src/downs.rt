@@ -67,7 +67,8 @@ pub(crate) fn downs(
     requires by_symbol { AreBySymbol b.now.rules by_symbol.now }
     requires size { length by_symbol.now ≡ length b.now.symbols }
     requires set { length set.now ≡ length b.now.states }
-    ensures { IfOk result (λ v. AreDowns b.now symbol.now set.now v.items) }
+    ensures within { IfOk result (λ v. All (λ r. r < length b.now.rules) v.items) }
+    ensures downs { IfOk result (λ v. AreDowns b.now symbol.now set.now v.items) }
 {
     let Some(k) = alphabet.find(symbol) else {
         return Ok(Vec::new(alloc));
