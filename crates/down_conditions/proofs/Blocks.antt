@@ -1,9 +1,8 @@
 -- Downward simulations of two automata together, from those between each two of them.
-use Rattle.std.proofs.Common.{◌≡◌, ◌⊎◌, inl, inr, ℕ, ◌<◌, ◌≤◌, ◌+◌, ◌-◌, List, length, map, Option, Some, None, refl, sym, ap, ◌∙◌, subst, arith, ⊎_elim}
+use Rattle.std.proofs.Common.{◌≡◌, inl, inr, ℕ, ◌<◌, ◌≤◌, ◌+◌, ◌-◌, List, length, map, Option, Some, None, refl, sym, ap, subst, arith, ⊎_elim}
 use Rattle.std.specs.List.{AllZip}
 use Rattle.std.specs.Prelude.{Contains, IfNone, IfSome}
 use Rattle.std.proofs.lemmas.Bool.{cases_lt}
-use Rattle.std.proofs.lemmas.Option.{slice_get_within}
 use Rattle.std.proofs.lemmas.List.Elements.{All-contains}
 use Rattle.tree_definitions.specs.Tree.{Symbol}
 use Rattle.tree_definitions.specs.Automaton.{Automaton, Rule, IsLabel, IsRule, HasRule, IsAutomaton, FitsRule}
@@ -11,8 +10,8 @@ use Rattle.tree_definitions.specs.Joint.{JointRule, right}
 use Rattle.tree_definitions.specs.Relation.{Relation, IsAt}
 use Rattle.tree_definitions.specs.Simulation.{IsDown}
 use Rattle.tree_definitions.proofs.Listing.{label_at, rule_of_line}
-use Rattle.tree_definitions.proofs.Members.{at_unique, contains_at}
-use Rattle.down_conditions.specs.Between.{IsStateDown, IsDownBetween, IsRuleDown, IsAnswered}
+use Rattle.tree_definitions.proofs.Members.{contains_at}
+use Rattle.down_conditions.specs.Between.{IsDownBetween, IsRuleDown, IsAnswered}
 use Rattle.down_conditions.proofs.Others.{at_distinct}
 use Rattle.down_conditions.proofs.Zips.{zip_mapped, zip_unmapped, map_same}
 
@@ -65,27 +64,27 @@ module _ (A B : Automaton) (fits : IsAutomaton A) (R : Relation) where
       let h0 : R (0 + q) r = subst (λ z. R z r) (sym (nought q)) h in
       ⊎_elim
       (λ (low : r < length A.states).
-        let k = aa a kids q rule r low (subst (R (0 + q)) (sym (nought r)) h0) in
-        (k.0, inl k.1, same_above R kids k.0 (near R kids (λ y. 0 + y) k.0 k.2)))
+      let k = aa a kids q rule r low (subst (R (0 + q)) (sym (nought r)) h0) in
+      (k.0, inl k.1, same_above R kids k.0 (near R kids (λ y. 0 + y) k.0 k.2)))
       (λ (high : length A.states ≤ r).
-        let w = within q r h in
-        let s = r - length A.states in
-        let e : r ≡ right A s = omega (arith, high) in
-        let k = ab a kids q rule s (omega (arith, w, high)) (subst (R (0 + q)) e h0) in
-        (map (right A) k.0, inr (k.0, s, refl, e, k.1), near R kids (right A) k.0 k.2))
+      let w = within q r h in
+      let s = r - length A.states in
+      let e : r ≡ right A s = omega (arith, high) in
+      let k = ab a kids q rule s (omega (arith, w, high)) (subst (R (0 + q)) e h0) in
+      (map (right A) k.0, inr (k.0, s, refl, e, k.1), near R kids (right A) k.0 k.2))
       (cases_lt r (length A.states))
   down_from_blocks within aa ab ba bb q r h a kids (inr (ks, s, ek, eq, rule)) =
       let hs : R (right A s) r = subst (λ z. R z r) eq h in
       ⊎_elim
       (λ (low : r < length A.states).
-        let k = ba a ks s rule r low (subst (R (right A s)) (sym (nought r)) hs) in
-        (k.0, inl k.1, subst (λ xs. AllZip R xs k.0) (sym ek) (same_above R (map (right A) ks) k.0 (zip_mapped R (right A) (λ y. 0 + y) ks k.0 k.2))))
+      let k = ba a ks s rule r low (subst (R (right A s)) (sym (nought r)) hs) in
+      (k.0, inl k.1, subst (λ xs. AllZip R xs k.0) (sym ek) (same_above R (map (right A) ks) k.0 (zip_mapped R (right A) (λ y. 0 + y) ks k.0 k.2))))
       (λ (high : length A.states ≤ r).
-        let w = within q r h in
-        let t = r - length A.states in
-        let e : r ≡ right A t = omega (arith, high) in
-        let k = bb a ks s rule t (omega (arith, w, high)) (subst (R (right A s)) e hs) in
-        (map (right A) k.0, inr (k.0, t, refl, e, k.1), subst (λ xs. AllZip R xs (map (right A) k.0)) (sym ek) (zip_mapped R (right A) (right A) ks k.0 k.2)))
+      let w = within q r h in
+      let t = r - length A.states in
+      let e : r ≡ right A t = omega (arith, high) in
+      let k = bb a ks s rule t (omega (arith, w, high)) (subst (R (right A s)) e hs) in
+      (map (right A) k.0, inr (k.0, t, refl, e, k.1), subst (λ xs. AllZip R xs (map (right A) k.0)) (sym ek) (zip_mapped R (right A) (right A) ks k.0 k.2)))
       (cases_lt r (length A.states))
 
   -- what answers at a place of A, or at one of B

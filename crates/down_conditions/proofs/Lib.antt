@@ -5,6 +5,7 @@ pub mod Bounded
 pub mod Filed
 pub mod Others
 pub mod Pushed
+pub mod Samples
 pub mod Sets
 pub mod Shifting
 pub mod Stepping

@@ -1,7 +1,6 @@
 -- Lists of sets, one of them changed or added.
-use Rattle.std.proofs.Common.{◌≡◌, ◌≢◌, ◌⊎◌, ◌↔◌, inl, inr, ℕ, zero, suc, ◌+◌, ◌<◌, List, [], ◌∷◌, ◌++◌, length, set, refl, sym, ap, ◌∙◌, subst, arith, ⊎_elim}
+use Rattle.std.proofs.Common.{◌≡◌, ◌≢◌, ◌⊎◌, ◌↔◌, inl, inr, ℕ, zero, suc, ◌+◌, List, [], ◌∷◌, ◌++◌, length, set, refl, sym, ap, ◌∙◌, subst, arith, ⊎_elim}
 use Rattle.std.proofs.lemmas.Bool.{cases_eq}
-use Rattle.std.proofs.lemmas.Option.{slice_get_within}
 use Rattle.tree_definitions.specs.Relation.{Row, Matrix, Has, Holds, IsAt}
 use Rattle.tree_definitions.proofs.Members.{at_unique}
 use Rattle.down_conditions.specs.Choosing.{AreSized}
@@ -40,8 +39,8 @@ module _ (sets : Matrix) (i s : ℕ) (row row2 : Row) (at : IsAt sets i row) whe
       | inl new ↦ (row2, subst (λ k. IsAt (set sets i row2) k row2) (sym new.0) (set_here sets i row2 row at), (members x).1 (inl new.1))
       | inr old ↦ ⊎_elim
           (λ (e : j ≡ i).
-            let same : old.0 ≡ row = at_unique sets i old.0 row (subst (λ k. IsAt sets k old.0) e old.1) at in
-            (row2, subst (λ k. IsAt (set sets i row2) k row2) (sym e) (set_here sets i row2 row at), (members x).1 (inr (subst (λ r. Has r x) same old.2))))
+          let same : old.0 ≡ row = at_unique sets i old.0 row (subst (λ k. IsAt sets k old.0) e old.1) at in
+          (row2, subst (λ k. IsAt (set sets i row2) k row2) (sym e) (set_here sets i row2 row at), (members x).1 (inr (subst (λ r. Has r x) same old.2))))
           (λ (d : j ≢ i). (old.0, set_else sets i row2 j old.0 d old.1, old.2))
           (cases_eq j i)
     ],

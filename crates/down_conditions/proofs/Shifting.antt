@@ -1,5 +1,5 @@
 -- Covering at joint places, and covering of a pair's own state and set.
-use Rattle.std.proofs.Common.{◌≡◌, ◌≢◌, ◌⊎◌, ◌↔◌, inl, inr, ℕ, ◌+◌, List, length, refl, sym, ap, ◌∙◌, subst, arith, ⊎_elim}
+use Rattle.std.proofs.Common.{◌≢◌, inl, inr, ℕ, List, length, refl, sym, subst, arith}
 use Rattle.std.specs.Prelude.{AllPairs}
 use Rattle.std.proofs.lemmas.Option.{slice_get_within}
 use Rattle.tree_definitions.specs.Automaton.{Automaton}
@@ -63,10 +63,10 @@ module _ (A : Automaton) (R : Relation) (pairs wides : List Pair) (are : AreShif
   covered_held to q h = elim h [
     | inl alone ↦ inl (right A alone.0, to (right A alone.0) (alone.0, refl, alone.1), alone.2)
     | inr by_pair ↦
-      let k = place_of pairs by_pair.0 by_pair.1 in
-      let w = slice_get_within pairs k.0 by_pair.0 k.1 in
-      let e = are.long in
-      inr (covers_wide to (length wides) q k.0 by_pair.0 (λ f. omega (arith, w, e, f)) k.1 by_pair.2)
+        let k = place_of pairs by_pair.0 by_pair.1 in
+        let w = slice_get_within pairs k.0 by_pair.0 k.1 in
+        let e = are.long in
+        inr (covers_wide to (length wides) q k.0 by_pair.0 (λ f. omega (arith, w, e, f)) k.1 by_pair.2)
   ]
 
 module _ (A : Automaton) (R : Relation) (pairs wides : List Pair) (are : AreShifted (length A.states) pairs wides) (distinct : AllPairs ◌≢◌ pairs)
@@ -74,14 +74,17 @@ module _ (A : Automaton) (R : Relation) (pairs wides : List Pair) (are : AreShif
   pub other_by_place : IsCoveredElsewhere R wides i wide.state (Has wide.set) → IsCovered A R pairs x
   other_by_place h =
       let shift = are.each i x wide at wat in
-      let k = covers_narrow A R pairs wides are (Has x.set) (Has wide.set) (λ s. (shift.set s).0) i wide.state h in
-      (k.1, contains_at pairs k.0 k.1 k.3, (λ e. k.2 (at_distinct pairs k.0 i x distinct (subst (IsAt pairs k.0) e k.3) at)),
-        subst (λ q. CoversDown A R k.1 q (Has x.set)) shift.state k.4)
+      let k = covers_narrow A R pairs wides are (Has x.set) (Has wide.set) (λ s. (shift.set s).0) i wide.state h in (
+        k.1,
+        contains_at pairs k.0 k.1 k.3,
+        (λ e. k.2 (at_distinct pairs k.0 i x distinct (subst (IsAt pairs k.0) e k.3) at)),
+        subst (λ q. CoversDown A R k.1 q (Has x.set)) shift.state k.4,
+      )
 
   pub place_of_other : IsCovered A R pairs x → IsCoveredElsewhere R wides i wide.state (Has wide.set)
   place_of_other h =
       let shift = are.each i x wide at wat in
       let k = place_of pairs h.0 h.1 in
       covers_wide A R pairs wides are (Has x.set) (Has wide.set) (λ s. (shift.set s).1) i wide.state k.0 h.0
-          (λ e. h.2 (at_unique pairs i h.0 x (subst (λ j. IsAt pairs j h.0) e k.1) at)) k.1
-          (subst (λ q. CoversDown A R h.0 q (Has x.set)) (sym shift.state) h.3)
+      (λ e. h.2 (at_unique pairs i h.0 x (subst (λ j. IsAt pairs j h.0) e k.1) at)) k.1
+      (subst (λ q. CoversDown A R h.0 q (Has x.set)) (sym shift.state) h.3)

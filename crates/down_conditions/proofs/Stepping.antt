@@ -38,7 +38,7 @@ module _ (R : Relation) (pairs : List Pair) (m : ℕ) (kids : List ℕ) (tuple :
       let w = slice_get_within ks h.1.0 h.1.1 h.1.2 in
       subst (λ z. IsSearching (Covers R pairs m kids) tuple count (length kids) m (places ++ length kids ∷ []) z sets) (sym h.0)
       (search_skips (Covers R pairs m kids) (covers_grows R pairs m kids) tuple count (length kids) m places next sets now room h.0 h.1.0 h.1.1 (omega (arith, w, long))
-        (subst (λ (xs : List ℕ). IsAt xs h.1.0 h.1.1) (sym its) h.1.2) h.1.3)
+      (subst (λ (xs : List ℕ). IsAt xs h.1.0 h.1.1) (sym its) h.1.2) h.1.3)
 
   pub fresh_here : next < length kids → ((next ≡ 0) × ((i : ℕ) × (t : ℕ) × IsAt ks i t × Holds sets i (m + t)) → ⊥) → IsFresh tuple now.to (length places)
   fresh_here small open_place = ⊎_elim
@@ -77,16 +77,17 @@ module _ (R : Relation) (pairs : List Pair) (m : ℕ) (kids : List ℕ) (tuple :
     step_passes held sets3 take = search_passes (Covers R pairs m kids) (covers_grows R pairs m kids) tuple count (length kids) m places next sets now room small fresh (covered_here held) sets3
         (λ x s. (
           (λ h.
-            let k = (take x s).0 h in
-            elim ((put x s).0 k.1) [ inl new ↦ absurd (k.0 new) | inr old ↦ old ]),
+              let k = (take x s).0 h in
+              elim ((put x s).0 k.1) [ inl new ↦ absurd (k.0 new) | inr old ↦ old ]),
           (λ h. (take x s).1 (
             (λ same.
-              let was = (now.has x s).0 h in
-              let e = same.1 in
-              let f = was.1 in
-              let its_t : was.0 ≡ t = omega (arith, e, f) in
-              fresh next t there (subst (Sent tuple (length places) now.to next) its_t (subst (λ z. Sent tuple (length places) now.to z was.0) same.0 was.2))),
-            (put x s).1 (inr h))),
+                let was = (now.has x s).0 h in
+                let e = same.1 in
+                let f = was.1 in
+                let its_t : was.0 ≡ t = omega (arith, e, f) in
+                fresh next t there (subst (Sent tuple (length places) now.to next) its_t (subst (λ z. Sent tuple (length places) now.to z was.0) same.0 was.2))),
+            (put x s).1 (inr h),
+          )),
         ))
 
     pub step_sends : (IsHeld R pairs q (Has row) → ⊥) → IsSearching (Covers R pairs m kids) tuple count (length kids) m (places ++ next ∷ []) 0 sets2

@@ -1,7 +1,7 @@
 -- One step of the search for a choice.
-use Rattle.std.proofs.Common.{◌≡◌, ◌≢◌, ◌⊎◌, ◌↔◌, inl, inr, ℕ, zero, suc, ◌+◌, ◌-◌, ◌*◌, ◌^◌, ◌<◌, ◌≤◌, List, [], ◌∷◌, ◌++◌, length, refl, sym, ap, ◌∙◌, subst, arith, ⊎_elim}
+use Rattle.std.proofs.Common.{◌≡◌, ◌≢◌, ◌⊎◌, ◌↔◌, inl, inr, ℕ, ◌+◌, ◌<◌, ◌≤◌, List, [], ◌∷◌, ◌++◌, length, refl, sym, ap, ◌∙◌, subst, arith, ⊎_elim}
 use Rattle.std.proofs.Math.Decide.{ℕ_discrete}
-use Rattle.std.proofs.lemmas.Bool.{cases_eq, cases_lt}
+use Rattle.std.proofs.lemmas.Bool.{cases_eq}
 use Rattle.std.proofs.lemmas.Option.{slice_get_within}
 use Rattle.tree_definitions.specs.Relation.{Places, Matrix, Holds, IsAt}
 use Rattle.tree_definitions.proofs.Members.{at_unique, at_within}
@@ -47,18 +47,20 @@ module _ (tuple : ℕ → List ℕ) where
   placed_same : (n : ℕ) (f g : ℕ → ℕ) (k v : ℕ) → ((e : ℕ) → e < k + 1 → f e ≡ g e) → IsPlaced tuple n f k v → IsPlaced tuple n g k v
   placed_same n f g k v same h =
       let here : f k ≡ g k = same k (omega arith) in
-      let before : (e : ℕ) → e < k → f e ≡ g e = λ e l. same e (omega (arith, l)) in
-      (subst (λ z. z < n) here h.0, elim h.1 [
-        | inl new ↦ inl (new.0 ∙ here, fresh_same f g k before new.1)
-        | inr old ↦ inr (old.0, (old.1.0, subst (λ z. IsAt (tuple k) z old.1.0) here old.1.1, subst (λ z. Sent tuple k g z old.1.0) here (sent_same f g k before (f k) old.1.0 old.1.2)))
-      ])
+      let before : (e : ℕ) → e < k → f e ≡ g e = λ e l. same e (omega (arith, l)) in (
+        subst (λ z. z < n) here h.0,
+        elim h.1 [
+          | inl new ↦ inl (new.0 ∙ here, fresh_same f g k before new.1)
+          | inr old ↦ inr (old.0, (old.1.0, subst (λ z. IsAt (tuple k) z old.1.0) here old.1.1, subst (λ z. Sent tuple k g z old.1.0) here (sent_same f g k before (f k) old.1.0 old.1.2)))
+        ],
+      )
 
   -- with one tuple more
   pub sent_cases : (to : ℕ → ℕ) (j i x s : ℕ) → Sent tuple (j + 1) (sending to j i) x s → Sent tuple j to x s ⊎ ((x ≡ i) × IsAt (tuple j) i s)
   sent_cases to j i x s h = ⊎_elim
       (λ (e : h.0 ≡ j).
-        let here : i ≡ x = sym (sending_here to j i) ∙ ap (sending to j i) (sym e) ∙ h.2 in
-        inr (sym here, subst (λ z. IsAt (tuple j) z s) (sym here) (subst (λ k. IsAt (tuple k) x s) e h.3)))
+      let here : i ≡ x = sym (sending_here to j i) ∙ ap (sending to j i) (sym e) ∙ h.2 in
+      inr (sym here, subst (λ z. IsAt (tuple j) z s) (sym here) (subst (λ k. IsAt (tuple k) x s) e h.3)))
       (λ (d : h.0 ≢ j). inl (h.0, (let l = h.1 in omega (arith, l, d)), sym (sending_else to j i h.0 d) ∙ h.2, h.3))
       (cases_eq h.0 j)
 
@@ -97,23 +99,24 @@ module _ (Covered : ℕ → Places → Type 0) (grows : (i : ℕ) (P Q : Places)
     pub search_done : count ≤ length places → (to : ℕ → ℕ) × Assigns count n to × Misses Covered tuple count to
     search_done whole =
         let short = now.short in
-        let e : length places ≡ count = omega (arith, whole, short) in
-        (now.to,
+        let e : length places ≡ count = omega (arith, whole, short) in (
+          now.to,
           (λ k l. let v = at_within places k (omega (arith, l, e)) in (now.each k v.0 v.1).0),
-          subst (λ c. Misses Covered tuple c now.to) e now.misses)
+          subst (λ c. Misses Covered tuple c now.to) e now.misses,
+        )
 
     -- nothing is left to be tried
     pub search_over : places ≡ [] → 0 < count → n ≤ next → (other : ℕ → ℕ) → Assigns count n other → Hits Covered tuple count other
     search_over none some past other all = elim (now.ahead other all) [
       | inl hit ↦ hit
       | inr left ↦
-        let up = left.up in
-        let none_long : length places ≡ 0 = ap (λ (xs : List ℕ). length xs) none in
-        let small = left.within left.turn (omega (arith, up, none_long, some)) in
-        elim left.beyond [
-          | inl b ↦ (let l = b.1 in absurd (omega (arith, l, small, past)))
-          | inr b ↦ (let w = slice_get_within places left.turn b.0 b.1 in absurd (omega (arith, w, none_long)))
-        ]
+          let up = left.up in
+          let none_long : length places ≡ 0 = ap (λ (xs : List ℕ). length xs) none in
+          let small = left.within left.turn (omega (arith, up, none_long, some)) in
+          elim left.beyond [
+            | inl b ↦ (let l = b.1 in absurd (omega (arith, l, small, past)))
+            | inr b ↦ (let w = slice_get_within places left.turn b.0 b.1 in absurd (omega (arith, w, none_long)))
+          ]
     ]
 
     -- some member of the tuple stands at its place: so does no harm there
@@ -132,17 +135,17 @@ module _ (Covered : ℕ → Places → Type 0) (grows : (i : ℕ) (P Q : Places)
           (λ h. elim (sent_cases tuple now.to j i x h.0 h.2) [
             | inl old ↦ (now.has x s).1 (h.0, h.1, old)
             | inr new ↦
-              let e : h.0 ≡ t = at_unique (tuple j) i h.0 t new.1 at in
-              (now.has x s).1 (h.0, h.1, subst (Sent tuple j now.to x) (sym e) (subst (λ z. Sent tuple j now.to z t) (sym new.0) before))
+                let e : h.0 ≡ t = at_unique (tuple j) i h.0 t new.1 at in
+                (now.has x s).1 (h.0, h.1, subst (Sent tuple j now.to x) (sym e) (subst (λ z. Sent tuple j now.to z t) (sym new.0) before))
           ]),
         ) in
         let misses_more : Misses Covered tuple (j + 1) f = λ x h. now.misses x (grows x (Sent tuple (j + 1) f x) (Sent tuple j now.to x)
-            (λ s y. elim (sent_cases tuple now.to j i x s y) [
-              | inl old ↦ old
-              | inr new ↦
-                let e : s ≡ t = at_unique (tuple j) i s t new.1 at in
-                subst (Sent tuple j now.to x) (sym e) (subst (λ z. Sent tuple j now.to z t) (sym new.0) before)
-            ]) h) in
+        (λ s y. elim (sent_cases tuple now.to j i x s y) [
+          | inl old ↦ old
+          | inr new ↦
+              let e : s ≡ t = at_unique (tuple j) i s t new.1 at in
+              subst (Sent tuple j now.to x) (sym e) (subst (λ z. Sent tuple j now.to z t) (sym new.0) before)
+        ]) h) in
         record {
           to = f;
           short = omega (arith, long, room);
@@ -150,11 +153,17 @@ module _ (Covered : ℕ → Places → Type 0) (grows : (i : ℕ) (P Q : Places)
           each = λ k v kat. elim (at_push places n k v kat) [
             | inl old ↦ (let w = slice_get_within places k v old in placed_same tuple n now.to f k v (λ e l. agree e (omega (arith, w, l))) (now.each k v old))
             | inr new ↦
-              let here : f k ≡ i = ap f new.0 ∙ sending_here now.to j i in
-              (subst (λ z. z < n) (sym here) small,
-                inr (new.1, (t,
-                  subst (λ z. IsAt (tuple k) z t) (sym here) (subst (λ z. IsAt (tuple z) i t) (sym new.0) at),
-                  subst (λ z. Sent tuple k f z t) (sym here) (subst (λ z. Sent tuple z f i t) (sym new.0) (sent_same tuple now.to f j agree i t before)))))
+                let here : f k ≡ i = ap f new.0 ∙ sending_here now.to j i in (
+                  subst (λ z. z < n) (sym here) small,
+                  inr (
+                    new.1,
+                    (
+                      t,
+                      subst (λ z. IsAt (tuple k) z t) (sym here) (subst (λ z. IsAt (tuple z) i t) (sym new.0) at),
+                      subst (λ z. Sent tuple k f z t) (sym here) (subst (λ z. Sent tuple z f i t) (sym new.0) (sent_same tuple now.to f j agree i t before)),
+                    ),
+                  ),
+                )
           ];
           has = subst (λ c. (x s : ℕ) → Holds sets x s ↔ Shifted m (Sent tuple c f x) s) (sym long) has_more;
           misses = subst (λ c. Misses Covered tuple c f) (sym long) misses_more;
@@ -170,10 +179,10 @@ module _ (Covered : ℕ → Places → Type 0) (grows : (i : ℕ) (P Q : Places)
                     (cases_eq k j);
                 less = λ x s h. ⊎_elim
                     (λ (e : h.0 ≡ j).
-                      let here : i ≡ x = sym (sending_here left.better j i) ∙ ap (sending left.better j i) (sym e) ∙ h.2 in
-                      let its : s ≡ t = at_unique (tuple j) i s t (subst (λ z. IsAt (tuple j) z s) (sym here) (subst (λ k. IsAt (tuple k) x s) e h.3)) at in
-                      let old : Sent tuple j left.better i t = sent_same tuple now.to left.better j (λ e l. sym (left.same e (let q = b.0 in omega (arith, l, q)))) i t before in
-                      left.less x s (subst (Sent tuple count left.better x) (sym its) (subst (λ z. Sent tuple count left.better z t) here (sent_more tuple left.better j count (omega (arith, room)) i t old))))
+                    let here : i ≡ x = sym (sending_here left.better j i) ∙ ap (sending left.better j i) (sym e) ∙ h.2 in
+                    let its : s ≡ t = at_unique (tuple j) i s t (subst (λ z. IsAt (tuple j) z s) (sym here) (subst (λ k. IsAt (tuple k) x s) e h.3)) at in
+                    let old : Sent tuple j left.better i t = sent_same tuple now.to left.better j (λ e l. sym (left.same e (let q = b.0 in omega (arith, l, q)))) i t before in
+                    left.less x s (subst (Sent tuple count left.better x) (sym its) (subst (λ z. Sent tuple count left.better z t) here (sent_more tuple left.better j count (omega (arith, room)) i t old))))
                     (λ (d : h.0 ≢ j). left.less x s (h.0, h.1, sym (sending_else left.better j i h.0 d) ∙ h.2, h.3))
                     (cases_eq h.0 j);
                 turn = j + 1;
@@ -185,16 +194,16 @@ module _ (Covered : ℕ → Places → Type 0) (grows : (i : ℕ) (P Q : Places)
                 beyond = inl (sym long, omega arith);
               }
               | inr b ↦
-                let w = slice_get_within places left.turn b.0 b.1 in
-                record {
-                  better = left.better;
-                  within = left.within;
-                  less = left.less;
-                  turn = left.turn;
-                  up = omega (arith, w, long);
-                  same = λ e l. left.same e l ∙ agree e (omega (arith, l, w));
-                  beyond = inr (b.0, push_before places n left.turn b.0 b.1, b.2);
-                }
+                  let w = slice_get_within places left.turn b.0 b.1 in
+                  record {
+                    better = left.better;
+                    within = left.within;
+                    less = left.less;
+                    turn = left.turn;
+                    up = omega (arith, w, long);
+                    same = λ e l. left.same e l ∙ agree e (omega (arith, l, w));
+                    beyond = inr (b.0, push_before places n left.turn b.0 b.1, b.2);
+                  }
             ])
           ];
         }
@@ -217,14 +226,17 @@ module _ (Covered : ℕ → Places → Type 0) (grows : (i : ℕ) (P Q : Places)
             | inr left ↦ elim left.beyond [
               | inl b ↦ ⊎_elim
                   (λ (e : left.better left.turn ≡ next).
-                    let q = b.0 in
-                    let agree : (k : ℕ) → k < j + 1 → sending now.to j next k ≡ left.better k = λ k l. ⊎_elim
-                        (λ (f : k ≡ j). ap (sending now.to j next) f ∙ sending_here now.to j next ∙ sym e ∙ ap left.better (q ∙ sym f))
-                        (λ (d : k ≢ j). sending_else now.to j next k d ∙ sym (left.same k (omega (arith, l, d, q))))
-                        (cases_eq k j) in
-                    inl (next, grows next (Sent tuple (j + 1) (sending now.to j next) next) (Sent tuple count other next)
+                  let q = b.0 in
+                  let agree : (k : ℕ) → k < j + 1 → sending now.to j next k ≡ left.better k = λ k l. ⊎_elim
+                  (λ (f : k ≡ j). ap (sending now.to j next) f ∙ sending_here now.to j next ∙ sym e ∙ ap left.better (q ∙ sym f))
+                  (λ (d : k ≢ j). sending_else now.to j next k d ∙ sym (left.same k (omega (arith, l, d, q))))
+                  (cases_eq k j) in
+                  inl (
+                    next,
+                    grows next (Sent tuple (j + 1) (sending now.to j next) next) (Sent tuple count other next)
                         (λ s h. left.less next s (sent_more tuple left.better (j + 1) count (omega (arith, room)) next s
-                          (sent_same tuple (sending now.to j next) left.better (j + 1) agree next s h))) covered))
+                        (sent_same tuple (sending now.to j next) left.better (j + 1) agree next s h))) covered,
+                  ))
                   (λ (d : left.better left.turn ≢ next). inr (record {
                     better = left.better;
                     within = left.within;
@@ -266,18 +278,18 @@ module _ (Covered : ℕ → Places → Type 0) (grows : (i : ℕ) (P Q : Places)
           (λ h. elim (sent_cases tuple now.to j next x h.0 h.2) [
             | inl old ↦ (put x s).1 (inr ((now.has x s).1 (h.0, h.1, old)))
             | inr new ↦
-              let e : h.0 ≡ t = at_unique (tuple j) next h.0 t new.1 at in
-              (put x s).1 (inl (new.0, h.1 ∙ ap (λ z. m + z) e))
+                let e : h.0 ≡ t = at_unique (tuple j) next h.0 t new.1 at in
+                (put x s).1 (inl (new.0, h.1 ∙ ap (λ z. m + z) e))
           ]),
         ) in
         let misses_more : Misses Covered tuple (j + 1) f = λ x h. ⊎_elim
-            (λ (e : x ≡ next). free (subst (λ z. Covered z (Sent tuple (j + 1) f z)) e h))
-            (λ (d : x ≢ next). now.misses x (grows x (Sent tuple (j + 1) f x) (Sent tuple j now.to x)
-              (λ s y. elim (sent_cases tuple now.to j next x s y) [
-                | inl old ↦ old
-                | inr new ↦ absurd (d new.0)
-              ]) h))
-            (cases_eq x next) in
+        (λ (e : x ≡ next). free (subst (λ z. Covered z (Sent tuple (j + 1) f z)) e h))
+        (λ (d : x ≢ next). now.misses x (grows x (Sent tuple (j + 1) f x) (Sent tuple j now.to x)
+        (λ s y. elim (sent_cases tuple now.to j next x s y) [
+          | inl old ↦ old
+          | inr new ↦ absurd (d new.0)
+        ]) h))
+        (cases_eq x next) in
         record {
           to = f;
           short = omega (arith, long, room);
@@ -285,8 +297,8 @@ module _ (Covered : ℕ → Places → Type 0) (grows : (i : ℕ) (P Q : Places)
           each = λ k v kat. elim (at_push places next k v kat) [
             | inl old ↦ (let w = slice_get_within places k v old in placed_same tuple n now.to f k v (λ e l. agree e (omega (arith, w, l))) (now.each k v old))
             | inr new ↦
-              let here : f k ≡ next = ap f new.0 ∙ sending_here now.to j next in
-              (subst (λ z. z < n) (sym here) small, inl (new.1 ∙ sym here, subst (IsFresh tuple f) (sym new.0) (fresh_same tuple now.to f j agree fresh)))
+                let here : f k ≡ next = ap f new.0 ∙ sending_here now.to j next in
+                (subst (λ z. z < n) (sym here) small, inl (new.1 ∙ sym here, subst (IsFresh tuple f) (sym new.0) (fresh_same tuple now.to f j agree fresh)))
           ];
           has = subst (λ c. (x s : ℕ) → Holds sets2 x s ↔ Shifted m (Sent tuple c f x) s) (sym long) has_more;
           misses = subst (λ c. Misses Covered tuple c f) (sym long) misses_more;
@@ -308,28 +320,28 @@ module _ (Covered : ℕ → Places → Type 0) (grows : (i : ℕ) (P Q : Places)
                     beyond = inl (sym long, omega arith);
                   })
                   (λ (d : left.better left.turn ≢ next).
-                    let q = b.0 in
-                    record {
-                      better = left.better;
-                      within = left.within;
-                      less = left.less;
-                      turn = left.turn;
-                      up = omega (arith, long, q);
-                      same = λ k l. left.same k l ∙ agree k (omega (arith, l, q));
-                      beyond = inr (next, subst (λ z. IsAt (places ++ next ∷ []) z next) (sym q) (push_at places next), (let l = b.1 in omega (arith, l, d)));
-                    })
+                  let q = b.0 in
+                  record {
+                    better = left.better;
+                    within = left.within;
+                    less = left.less;
+                    turn = left.turn;
+                    up = omega (arith, long, q);
+                    same = λ k l. left.same k l ∙ agree k (omega (arith, l, q));
+                    beyond = inr (next, subst (λ z. IsAt (places ++ next ∷ []) z next) (sym q) (push_at places next), (let l = b.1 in omega (arith, l, d)));
+                  })
                   (cases_eq (left.better left.turn) next)
               | inr b ↦
-                let w = slice_get_within places left.turn b.0 b.1 in
-                record {
-                  better = left.better;
-                  within = left.within;
-                  less = left.less;
-                  turn = left.turn;
-                  up = omega (arith, w, long);
-                  same = λ e l. left.same e l ∙ agree e (omega (arith, l, w));
-                  beyond = inr (b.0, push_before places next left.turn b.0 b.1, b.2);
-                }
+                  let w = slice_get_within places left.turn b.0 b.1 in
+                  record {
+                    better = left.better;
+                    within = left.within;
+                    less = left.less;
+                    turn = left.turn;
+                    up = omega (arith, w, long);
+                    same = λ e l. left.same e l ∙ agree e (omega (arith, l, w));
+                    beyond = inr (b.0, push_before places next left.turn b.0 b.1, b.2);
+                  }
             ])
           ];
         }
@@ -341,40 +353,40 @@ module _ (Covered : ℕ → Places → Type 0) (grows : (i : ℕ) (P Q : Places)
     back_ahead other all = elim (now.ahead other all) [
       | inl hit ↦ inl hit
       | inr left ↦
-        let long = length_push places v in
-        elim left.beyond [
-          | inl b ↦
-            let q = b.0 in
-            let l = b.1 in
-            let small = left.within left.turn (omega (arith, long, q, room)) in
-            absurd (omega (arith, small, l, past))
-          | inr b ↦ elim (at_push places v left.turn b.0 b.1) [
-            | inl old ↦
-              let w = slice_get_within places left.turn b.0 old in
-              inr (record {
-                better = left.better;
-                within = left.within;
-                less = left.less;
-                turn = left.turn;
-                up = omega (arith, w);
-                same = left.same;
-                beyond = inr (b.0, old, b.2);
-              })
-            | inr new ↦
-              let q = new.0 in
-              let e = new.1 in
-              let l = b.2 in
-              inr (record {
-                better = left.better;
-                within = left.within;
-                less = left.less;
-                turn = left.turn;
-                up = omega (arith, q);
-                same = left.same;
-                beyond = inl (q, omega (arith, l, e));
-              })
+          let long = length_push places v in
+          elim left.beyond [
+            | inl b ↦
+                let q = b.0 in
+                let l = b.1 in
+                let small = left.within left.turn (omega (arith, long, q, room)) in
+                absurd (omega (arith, small, l, past))
+            | inr b ↦ elim (at_push places v left.turn b.0 b.1) [
+              | inl old ↦
+                  let w = slice_get_within places left.turn b.0 old in
+                  inr (record {
+                    better = left.better;
+                    within = left.within;
+                    less = left.less;
+                    turn = left.turn;
+                    up = omega (arith, w);
+                    same = left.same;
+                    beyond = inr (b.0, old, b.2);
+                  })
+              | inr new ↦
+                  let q = new.0 in
+                  let e = new.1 in
+                  let l = b.2 in
+                  inr (record {
+                    better = left.better;
+                    within = left.within;
+                    less = left.less;
+                    turn = left.turn;
+                    up = omega (arith, q);
+                    same = left.same;
+                    beyond = inl (q, omega (arith, l, e));
+                  })
+            ]
           ]
-        ]
     ]
 
     here : IsPlaced tuple n now.to (length places) v
@@ -413,22 +425,23 @@ module _ (Covered : ℕ → Places → Type 0) (grows : (i : ℕ) (P Q : Places)
         each = before;
         has = λ x s. (
           λ h.
-            let k = (take x s).0 h in
-            let was = (now.has x s).0 k.1 in
-            elim (at_last x was.0 was.2) [
-              | inl old ↦ (was.0, was.1, old)
-              | inr last ↦
-                let e : x ≡ v = sym last.0 ∙ sym new.0 in
-                let f : was.0 ≡ t = at_unique (tuple (length places)) v was.0 t (subst (λ z. IsAt (tuple (length places)) z was.0) e last.1) at in
-                absurd (k.0 (e, was.1 ∙ ap (λ z. m + z) f))
-            ],
+              let k = (take x s).0 h in
+              let was = (now.has x s).0 k.1 in
+              elim (at_last x was.0 was.2) [
+                | inl old ↦ (was.0, was.1, old)
+                | inr last ↦
+                    let e : x ≡ v = sym last.0 ∙ sym new.0 in
+                    let f : was.0 ≡ t = at_unique (tuple (length places)) v was.0 t (subst (λ z. IsAt (tuple (length places)) z was.0) e last.1) at in
+                    absurd (k.0 (e, was.1 ∙ ap (λ z. m + z) f))
+              ],
           λ h. (take x s).1 (
             (λ both.
-              let g = h.1 in
-              let w = both.1 in
-              let f : h.0 ≡ t = omega (arith, g, w) in
-              new.1 v t at (subst (Sent tuple (length places) now.to v) f (subst (λ z. Sent tuple (length places) now.to z h.0) both.0 h.2))),
-            (now.has x s).1 (h.0, h.1, fewer x h.0 h.2)),
+                let g = h.1 in
+                let w = both.1 in
+                let f : h.0 ≡ t = omega (arith, g, w) in
+                new.1 v t at (subst (Sent tuple (length places) now.to v) f (subst (λ z. Sent tuple (length places) now.to z h.0) both.0 h.2))),
+            (now.has x s).1 (h.0, h.1, fewer x h.0 h.2),
+          ),
         );
         misses = misses_less;
         fresh = λ d l. new.1;
@@ -446,14 +459,14 @@ module _ (Covered : ℕ → Places → Type 0) (grows : (i : ℕ) (P Q : Places)
         each = before;
         has = λ x s. (
           λ h.
-            let was = (now.has x s).0 h in
-            elim (at_last x was.0 was.2) [
-              | inl earlier ↦ (was.0, was.1, earlier)
-              | inr last ↦
-                let x_is : now.to (length places) ≡ x = last.0 in
-                let f : was.0 ≡ old.1.0 = at_unique (tuple (length places)) x was.0 old.1.0 last.1 (subst (λ z. IsAt (tuple (length places)) z old.1.0) x_is old.1.1) in
-                (was.0, was.1, subst (Sent tuple (length places) now.to x) (sym f) (subst (λ z. Sent tuple (length places) now.to z old.1.0) x_is old.1.2))
-            ],
+              let was = (now.has x s).0 h in
+              elim (at_last x was.0 was.2) [
+                | inl earlier ↦ (was.0, was.1, earlier)
+                | inr last ↦
+                    let x_is : now.to (length places) ≡ x = last.0 in
+                    let f : was.0 ≡ old.1.0 = at_unique (tuple (length places)) x was.0 old.1.0 last.1 (subst (λ z. IsAt (tuple (length places)) z old.1.0) x_is old.1.1) in
+                    (was.0, was.1, subst (Sent tuple (length places) now.to x) (sym f) (subst (λ z. Sent tuple (length places) now.to z old.1.0) x_is old.1.2))
+              ],
           λ h. (now.has x s).1 (h.0, h.1, fewer x h.0 h.2),
         );
         misses = misses_less;

@@ -1,7 +1,7 @@
 -- The search for a choice that leaves all children uncovered: tuples in order, each sent to a place.
 use Rattle.std.specs.Prelude.{◌≡◌, ◌≢◌, ◌⊎◌, ◌↔◌, ℕ, ◌+◌, ◌-◌, ◌*◌, ◌^◌, ◌<◌, ◌≤◌, List, [], ◌∷◌, All, length, Option, Some, None, slice_get, slice_index_or}
 use Rattle.tree_definitions.specs.Automaton.{Rule}
-use Rattle.tree_definitions.specs.Relation.{Relation, Places, Row, Matrix, Holds, IsAt}
+use Rattle.tree_definitions.specs.Relation.{Relation, Places, Matrix, Holds, IsAt}
 use Rattle.tree_definitions.specs.Cover.{Pair}
 use Rattle.down_conditions.specs.Covering.{IsHeld, Shifted}
 

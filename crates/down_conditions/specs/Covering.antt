@@ -1,7 +1,7 @@
 -- Which pairs and relations cover, by joint places.
 use Rattle.std.specs.Prelude.{◌≡◌, ◌≢◌, ◌⊎◌, ◌↔◌, ℕ, ◌+◌, List, Contains, length}
 use Rattle.tree_definitions.specs.Automaton.{Automaton}
-use Rattle.tree_definitions.specs.Relation.{Relation, Places, Row, Has, IsAt, Below}
+use Rattle.tree_definitions.specs.Relation.{Relation, Places, Has, IsAt, Below}
 use Rattle.tree_definitions.specs.Cover.{Pair}
 use Rattle.tree_definitions.specs.DownCert.{CoversDown}
 

@@ -24,13 +24,7 @@ use ta_model::{Listed, Symbol};
 use trim_ops::{RuleIndex, rules_by_parent};
 
 /// Whether some child is covered with this set.
-fn some_held(
-    both: &Matrix,
-    wides: &[Pair],
-    by_state: &RuleIndex,
-    kids: &[u32],
-    set: &Row,
-) -> bool
+fn some_held(both: &Matrix, wides: &[Pair], by_state: &RuleIndex, kids: &[u32], set: &Row) -> bool
     requires within { AreWithin (length both.now) (length both.now) wides.now }
     requires by_state { AreByState wides.now by_state.now }
     requires index { length by_state.now ≡ length both.now }

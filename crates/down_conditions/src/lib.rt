@@ -13,6 +13,8 @@ mod downward;
 mod finals;
 mod search;
 mod shift;
+#[cfg(test)]
+mod tests;
 
 pub use apart::first_covered;
 pub use choices::first_refuted;

@@ -1,4 +1,4 @@
-use Rattle.std.proofs.Common.{◌≡◌, ◌≢◌, ◌+◌, true, false, ℕ, List, length, get_or, Some, refl, sym, ap, ◌∙◌, subst, arith, ⊎_elim}
+use Rattle.std.proofs.Common.{◌≡◌, ◌≢◌, ◌+◌, true, false, List, length, get_or, Some, refl, sym, ap, ◌∙◌, subst, arith, ⊎_elim}
 use Rattle.std.specs.List.{AllZip}
 use Rattle.std.proofs.lemmas.Bool.{cases_eq}
 use Rattle.std.proofs.lemmas.List.Elements.{Contains-get_or}
@@ -23,10 +23,15 @@ returns-then-kids_below c r lists index lat = (
       let symbol : over.symbol ≡ c.args.symbol = sym (ap (λ (o : Rule). o.symbol) c.over.view_is) ∙ c.if-over-symbol.true in
       let ours : c.as_slice.result.now ≡ c.args.rule.now.kids = c.as_slice.ensures ∙ ap (λ (o : Rule). o.kids) c.rule.view_is in
       let theirs : c.as_slice-then-over-symbol.result.now ≡ over.kids = c.as_slice-then-over-symbol.ensures ∙ ap (λ (o : Rule). o.kids) c.over.view_is in
-      let zip = c.kids_below.ensures.0 c.if-kids_below.true in
-      (s, over, there, ap Some (sym symbol), index.parent r list s over lat (Contains-get_or list i 0 c.loop-s-test.true) there,
+      let zip = c.kids_below.ensures.0 c.if-kids_below.true in (
+        s,
+        over,
+        there,
+        ap Some (sym symbol),
+        index.parent r list s over lat (Contains-get_or list i 0 c.loop-s-test.true) there,
         subst (AllZip (λ x y. Holds c.args.both.now (c.args.l + x) (c.args.h + y)) c.args.rule.now.kids) theirs
-        (subst (λ xs. AllZip (λ x y. Holds c.args.both.now (c.args.l + x) (c.args.h + y)) xs c.as_slice-then-over-symbol.result.now) ours zip)),
+            (subst (λ xs. AllZip (λ x y. Holds c.args.both.now (c.args.l + x) (c.args.h + y)) xs c.as_slice-then-over-symbol.result.now) ours zip),
+      ),
   λ h. refl,
 )
 
@@ -43,19 +48,19 @@ loop-s-preserved c k s over l kat sat symbol zip =
     let there : IsAt rules x this = subst (λ (xs : List Rule). IsAt xs x this) c.rules.ensures.value at in
     ⊎_elim
     (λ (e : k ≡ i).
-      let same : s ≡ x = at_unique list i s x (subst (λ j. IsAt list j s) e kat) xat in
-      let which : over ≡ this = at_unique rules x over this (subst (λ j. IsAt rules j over) same sat) there in
-      let its : c.over.inside.symbol ≡ c.args.symbol = ap (λ (o : Rule). o.symbol) c.over.view_is ∙ ap (λ (o : Rule). o.symbol) (sym which) ∙ symbol in
-      elim c.else-over-symbol.branch [
-        | else-over-symbol-via-then-over-symbol+else-kids_below w ↦ (
+    let same : s ≡ x = at_unique list i s x (subst (λ j. IsAt list j s) e kat) xat in
+    let which : over ≡ this = at_unique rules x over this (subst (λ j. IsAt rules j over) same sat) there in
+    let its : c.over.inside.symbol ≡ c.args.symbol = ap (λ (o : Rule). o.symbol) c.over.view_is ∙ ap (λ (o : Rule). o.symbol) (sym which) ∙ symbol in
+    elim c.else-over-symbol.branch [
+      | else-over-symbol-via-then-over-symbol+else-kids_below w ↦ (
           let ours : w.as_slice.result.now ≡ c.args.rule.now.kids = w.as_slice.ensures ∙ ap (λ (o : Rule). o.kids) c.rule.view_is in
           let theirs : w.as_slice-then-over-symbol.result.now ≡ over.kids = w.as_slice-then-over-symbol.ensures ∙ ap (λ (o : Rule). o.kids) c.over.view_is ∙ ap (λ (o : Rule). o.kids) (sym which) in
           let so = subst (AllZip (λ x y. Holds c.args.both.now (c.args.l + x) (c.args.h + y)) w.as_slice.result.now) (sym theirs)
           (subst (λ xs. AllZip (λ x y. Holds c.args.both.now (c.args.l + x) (c.args.h + y)) xs over.kids) (sym ours) zip) in
           let b : true ≡ false = sym (w.kids_below.ensures.1 so) ∙ w.if-kids_below.false in
           cc)
-        | else-over-symbol-via-else-over-symbol w ↦ absurd (w.if-over-symbol.false its)
-      ])
+      | else-over-symbol-via-else-over-symbol w ↦ absurd (w.if-over-symbol.false its)
+    ])
     (λ (d : k ≢ i). c.loop-s.invariant k s over (omega arith) kat sat symbol zip)
     (cases_eq k i)
 

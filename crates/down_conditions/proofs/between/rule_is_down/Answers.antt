@@ -1,5 +1,4 @@
-use Rattle.std.proofs.Common.{◌≡◌, ◌+◌, ℕ, List, Option, Some, None, length, refl, sym, ap, ◌∙◌, subst, arith}
-use Rattle.std.specs.Prelude.{Contains}
+use Rattle.std.proofs.Common.{◌≡◌, ℕ, List, Some, length, refl, ap, subst, arith}
 use Rattle.std.proofs.lemmas.Option.{slice_get_read}
 use Rattle.tree_definitions.specs.Tree.{Symbol}
 use Rattle.tree_definitions.specs.Automaton.{Rule}
@@ -22,8 +21,7 @@ returns c =
     let there : IsAt L.symbols rule.symbol label = subst (λ i. IsAt L.symbols i label) its (subst (λ (xs : List Symbol). IsAt xs c.rule.inside.symbol label) c.symbols.ensures.value at) in
     let symbol = c.find-symbol.result in
     let found = found_at c.args.alphabet.now H.symbols label symbol c.requires.alphabet c.find-symbol.ensures.found in
-    let none = found_none c.args.alphabet.now H.symbols label symbol c.requires.alphabet c.find-symbol.ensures.none in
-    (
+    let none = found_none c.args.alphabet.now H.symbols label symbol c.requires.alphabet c.find-symbol.ensures.none in (
       λ t a aat r l h.
           let same : label ≡ a = at_unique L.symbols rule.symbol label a there aat in
           rule_answers H c.symbols-symbols.ensures.listed.automaton R c.args.l c.args.h a rule r symbol (subst (λ (x : Symbol). (k : ℕ) → symbol ≡ Some k → IsAt H.symbols k x) same found) (c.answered_all.ensures.0 t r l h),

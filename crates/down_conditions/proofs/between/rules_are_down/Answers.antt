@@ -29,8 +29,8 @@ loop-i-preserved c k other l kat =
     let at : IsAt rules i rule = subst (λ (xs : List Rule). IsAt xs i rule) c.rules-rules.ensures.value read in
     ⊎_elim
     (λ (e : k ≡ i).
-      let which : other ≡ rule = at_unique rules i other rule (subst (λ j. IsAt rules j other) e kat) at in
-      subst (λ (x : Rule). IsRuleDown c.args.low.now c.args.high.now (Holds c.args.both.now) c.args.l c.args.h x) (sym which) (c.rule_is_down.ensures.0 c.if-not-rule_is_down.false))
+    let which : other ≡ rule = at_unique rules i other rule (subst (λ j. IsAt rules j other) e kat) at in
+    subst (λ (x : Rule). IsRuleDown c.args.low.now c.args.high.now (Holds c.args.both.now) c.args.l c.args.h x) (sym which) (c.rule_is_down.ensures.0 c.if-not-rule_is_down.false))
     (λ (d : k ≢ i). c.loop-i.invariant k other (omega arith) kat)
     (cases_eq k i)
 
@@ -38,7 +38,7 @@ pub returns : goal.returns
 returns c = (
   λ t. between_from_lines c.args.low.now c.args.high.now (Holds c.args.both.now) c.args.l c.args.h
       (λ i rule at.
-        let w = slice_get_within c.rules-rules.result.now i rule (subst (λ (xs : List Rule). IsAt xs i rule) (sym c.rules-rules.ensures.value) at) in
-        c.loop-i.invariant i rule (omega (arith, w, c.loop-i-test.false)) at),
+      let w = slice_get_within c.rules-rules.result.now i rule (subst (λ (xs : List Rule). IsAt xs i rule) (sym c.rules-rules.ensures.value) at) in
+      c.loop-i.invariant i rule (omega (arith, w, c.loop-i-test.false)) at),
   λ h. refl,
 )

@@ -1,11 +1,11 @@
-use Rattle.std.proofs.Common.{◌≡◌, ◌≢◌, ◌<◌, ◌+◌, ℕ, List, true, false, length, get_or, refl, sym, ap, ◌∙◌, subst, arith, ⊎_elim}
+use Rattle.std.proofs.Common.{◌≡◌, ◌≢◌, length, refl, sym, ap, subst, arith, ⊎_elim}
 use Rattle.std.specs.Prelude.{not}
 use Rattle.std.proofs.lemmas.Bool.{cases_eq}
 use Rattle.std.proofs.lemmas.Option.{slice_get_read, slice_get_within}
 use Rattle.tree_definitions.specs.Cover.{Pair}
 use Rattle.tree_definitions.specs.Relation.{Holds, IsAt}
 use Rattle.tree_definitions.proofs.Members.{at_unique, place_of}
-use Rattle.down_conditions.specs.Refuting.{IsRefuted, IsSplitCovered}
+use Rattle.down_conditions.specs.Refuting.{IsSplitCovered}
 use Rattle.down_conditions.proofs.choices.first_by_index.Goals as goal
 
 pub returns-in-Ok-true-clause-some : goal.returns-in-Ok-true-clause-some
@@ -34,9 +34,9 @@ loop-at-preserved c k other l kat =
     let lat = subst (λ z. IsAt c.args.by_parent.now z c.at-list.result.now) (ap (λ (o : Pair). o.state) c.pair.view_is) c.at-list.ensures in
     ⊎_elim
     (λ (e : k ≡ i).
-      let which : other ≡ pair = at_unique pairs i other pair (subst (λ j. IsAt pairs j other) e kat) at in
-      subst (IsSplitCovered c.args.a.now c.args.b.now (Holds c.args.both.now) pairs) (sym which)
-      (c.in-Ok-false.ensures.covered (ap not c.in-Ok-false.field-0-test) c.args.by_parent.now pairs c.requires.by_parent lat c.requires.shifted))
+    let which : other ≡ pair = at_unique pairs i other pair (subst (λ j. IsAt pairs j other) e kat) at in
+    subst (IsSplitCovered c.args.a.now c.args.b.now (Holds c.args.both.now) pairs) (sym which)
+    (c.in-Ok-false.ensures.covered (ap not c.in-Ok-false.field-0-test) c.args.by_parent.now pairs c.requires.by_parent lat c.requires.shifted))
     (λ (d : k ≢ i). c.loop-at.invariant k other (omega arith) kat)
     (cases_eq k i)
 

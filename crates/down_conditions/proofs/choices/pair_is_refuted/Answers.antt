@@ -1,4 +1,4 @@
-use Rattle.std.proofs.Common.{◌≡◌, ◌≢◌, ◌<◌, ℕ, List, true, false, length, get_or, refl, sym, ap, ◌∙◌, subst, arith, ⊎_elim}
+use Rattle.std.proofs.Common.{◌≡◌, ◌≢◌, ℕ, List, length, get_or, refl, sym, ap, ◌∙◌, subst, arith, ⊎_elim}
 use Rattle.std.specs.Prelude.{not}
 use Rattle.std.proofs.lemmas.Bool.{cases_eq}
 use Rattle.std.proofs.lemmas.List.Elements.{All-contains, Contains-get_or}
@@ -37,9 +37,13 @@ returns-in-Ok-true-clause-refuted c t lists pairs index lat shifted =
     let xread : IsAt symbols c.rule.inside.symbol x = slice_get_read symbols (length symbols) c.rule.inside.symbol x refl (omega (arith, w, its, names)) c.index-symbols-rule.is in
     let xat : IsAt A.symbols rule.symbol x = subst (λ k. IsAt A.symbols k x) its (subst (λ (xs : List Symbol). IsAt xs c.rule.inside.symbol x) c.symbols-symbols.ensures.value xread) in
     let parent = index.parent c.args.pair.now.state list r rule lat (Contains-get_or list i 0 c.loop-r-test.true) at in
-    let h = c.in-Ok-true.ensures.refuted c.in-Ok-true.field-0-test pairs shifted in
-    (x, rule.kids, rule_of A r rule x c.args.pair.now.state at xat parent, h.0,
-      subst (λ (s : Row). Refutes A B R pairs s x rule.kids h.0) set (subst (λ (ks : List ℕ). Refutes A B R pairs c.pair.inside.set x ks h.0) kids h.1))
+    let h = c.in-Ok-true.ensures.refuted c.in-Ok-true.field-0-test pairs shifted in (
+      x,
+      rule.kids,
+      rule_of A r rule x c.args.pair.now.state at xat parent,
+      h.0,
+      subst (λ (s : Row). Refutes A B R pairs s x rule.kids h.0) set (subst (λ (ks : List ℕ). Refutes A B R pairs c.pair.inside.set x ks h.0) kids h.1),
+    )
 
 pub loop-r-preserved : goal.loop-r-preserved
 loop-r-preserved c k s other l kat oat y yat pairs shifted =
@@ -68,13 +72,13 @@ loop-r-preserved c k s other l kat oat y yat pairs shifted =
     let lat : IsAt list i r = slice_get-get_or list i 0 c.loop-r-test.true in
     ⊎_elim
     (λ (e : k ≡ i).
-      let same : s ≡ r = at_unique list i s r (subst (λ j. IsAt list j s) e kat) lat in
-      let which : other ≡ rule = at_unique A.rules r other rule (subst (λ j. IsAt A.rules j other) same oat) at in
-      let label : y ≡ x = at_unique A.symbols rule.symbol y x (subst (λ (o : Rule). IsAt A.symbols o.symbol y) which yat) xat in
-      let covered = c.in-Ok-false.ensures.covered (ap not c.in-Ok-false.field-0-test) pairs shifted in
-      let by_set = subst (λ (p : Row). IsRuleCovered A B R pairs p x c.as_slice.result.now) set covered in
-      let by_kids = subst (λ (ks : List ℕ). IsRuleCovered A B R pairs c.args.pair.now.set x ks) kids by_set in
-      subst (λ (o : Rule). IsRuleCovered A B R pairs c.args.pair.now.set y o.kids) (sym which) (subst (λ (z : Symbol). IsRuleCovered A B R pairs c.args.pair.now.set z rule.kids) (sym label) by_kids))
+    let same : s ≡ r = at_unique list i s r (subst (λ j. IsAt list j s) e kat) lat in
+    let which : other ≡ rule = at_unique A.rules r other rule (subst (λ j. IsAt A.rules j other) same oat) at in
+    let label : y ≡ x = at_unique A.symbols rule.symbol y x (subst (λ (o : Rule). IsAt A.symbols o.symbol y) which yat) xat in
+    let covered = c.in-Ok-false.ensures.covered (ap not c.in-Ok-false.field-0-test) pairs shifted in
+    let by_set = subst (λ (p : Row). IsRuleCovered A B R pairs p x c.as_slice.result.now) set covered in
+    let by_kids = subst (λ (ks : List ℕ). IsRuleCovered A B R pairs c.args.pair.now.set x ks) kids by_set in
+    subst (λ (o : Rule). IsRuleCovered A B R pairs c.args.pair.now.set y o.kids) (sym which) (subst (λ (z : Symbol). IsRuleCovered A B R pairs c.args.pair.now.set z rule.kids) (sym label) by_kids))
     (λ (d : k ≢ i). c.loop-r.invariant k s other (omega arith) kat oat y yat pairs shifted)
     (cases_eq k i)
 

@@ -1,13 +1,13 @@
-use Rattle.std.proofs.Common.{◌≡◌, ◌↔◌, ◌<◌, ℕ, List, true, false, length, refl, sym, ap, ◌∙◌, subst, arith}
+use Rattle.std.proofs.Common.{◌≡◌, ◌<◌, ℕ, List, true, false, length, sym, ap, ◌∙◌, subst}
 use Rattle.std.specs.Prelude.{All, IsTrue, not}
 use Rattle.std.proofs.lemmas.Result.{IfOk-weaker}
 use Rattle.tree_definitions.specs.Automaton.{Rule}
 use Rattle.tree_definitions.specs.Cover.{Pair}
-use Rattle.tree_definitions.specs.DownCert.{Downs, SentTo}
+use Rattle.tree_definitions.specs.DownCert.{SentTo}
 use Rattle.tree_definitions.specs.Relation.{Has, Holds}
 use Rattle.down_conditions.specs.Choosing.{Assigns, Covers, Hits, Misses, tuple_at}
 use Rattle.down_conditions.specs.Covering.{AreShifted, Shifted}
-use Rattle.down_conditions.specs.Refuting.{AreDowns, IsRuleCovered, Refutes}
+use Rattle.down_conditions.specs.Refuting.{IsRuleCovered, Refutes}
 use Rattle.down_conditions.proofs.Chosen.{covered_by, refuted_by, tuple_down}
 use Rattle.down_conditions.proofs.Downed.{rank_of}
 use Rattle.down_conditions.proofs.Shifting.{held_covered}
@@ -16,9 +16,13 @@ use Rattle.down_conditions.proofs.choices.rule_is_refuted.Goals as goal
 
 pub returns-then-some_held-clause-covered : goal.returns-then-some_held-clause-covered
 returns-then-some_held-clause-covered c t pairs shifted choice is =
-    let h = c.some_held.ensures.0 c.if-some_held.true in
-    (h.0, h.1, h.2, held_covered c.args.a.now (Holds c.args.both.now) pairs c.args.wides.now shifted (SentTo c.args.b.now c.args.symbol.now c.args.set.now choice h.0) (Has c.args.empty.now)
-      (λ s m. absurd (c.requires.empty s m)) h.1 h.3)
+    let h = c.some_held.ensures.0 c.if-some_held.true in (
+      h.0,
+      h.1,
+      h.2,
+      held_covered c.args.a.now (Holds c.args.both.now) pairs c.args.wides.now shifted (SentTo c.args.b.now c.args.symbol.now c.args.set.now choice h.0) (Has c.args.empty.now)
+          (λ s m. absurd (c.requires.empty s m)) h.1 h.3,
+    )
 
 pub can_miss-requires-clause-list : goal.can_miss-requires-clause-list
 can_miss-requires-clause-list c =
@@ -64,8 +68,8 @@ returns-clause-refuted c =
     IfOk-weaker c.can_miss.result (λ yes. IsTrue yes → Found m rules list)
     (λ yes. IsTrue yes → (pairs : List Pair) → AreShifted (length A.states) pairs wides → (choice : List ℕ → ℕ) × Refutes A B R pairs set a kids choice)
     (λ yes found t pairs shifted.
-      let h = subst (λ k. Found k B.rules items) long (subst (λ (rs : List Rule). Found m rs items) c.rules.ensures.value (subst (λ (xs : List ℕ). Found m rules xs) c.deref.ensures.value (found t))) in
-      refuted_by B a set items c.in_ok-list.ensures.within c.in_ok-list.ensures.downs A R pairs wides shifted kids h.0 h.1 h.2)
+    let h = subst (λ k. Found k B.rules items) long (subst (λ (rs : List Rule). Found m rs items) c.rules.ensures.value (subst (λ (xs : List ℕ). Found m rules xs) c.deref.ensures.value (found t))) in
+    refuted_by B a set items c.in_ok-list.ensures.within c.in_ok-list.ensures.downs A R pairs wides shifted kids h.0 h.1 h.2)
     c.can_miss.ensures.misses
 
 pub returns-clause-covered : goal.returns-clause-covered
@@ -86,6 +90,6 @@ returns-clause-covered c =
     IfOk-weaker c.can_miss.result (λ yes. IsTrue (not yes) → Hit m rules list)
     (λ yes. IsTrue (not yes) → (pairs : List Pair) → AreShifted (length A.states) pairs wides → IsRuleCovered A B R pairs set a kids)
     (λ yes hits t pairs shifted.
-      let h = subst (λ k. Hit k B.rules items) long (subst (λ (rs : List Rule). Hit m rs items) c.rules.ensures.value (subst (λ (xs : List ℕ). Hit m rules xs) c.deref.ensures.value (hits t))) in
-      covered_by B a set items c.in_ok-list.ensures.within c.in_ok-list.ensures.downs A R pairs wides shifted kids h)
+    let h = subst (λ k. Hit k B.rules items) long (subst (λ (rs : List Rule). Hit m rs items) c.rules.ensures.value (subst (λ (xs : List ℕ). Hit m rules xs) c.deref.ensures.value (hits t))) in
+    covered_by B a set items c.in_ok-list.ensures.within c.in_ok-list.ensures.downs A R pairs wides shifted kids h)
     c.can_miss.ensures.hits

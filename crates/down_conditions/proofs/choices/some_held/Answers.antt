@@ -1,4 +1,4 @@
-use Rattle.std.proofs.Common.{◌≡◌, ◌≢◌, true, false, get_or, refl, sym, ◌∙◌, subst, arith, ⊎_elim}
+use Rattle.std.proofs.Common.{◌≡◌, ◌≢◌, true, false, get_or, sym, ◌∙◌, subst, arith, ⊎_elim}
 use Rattle.std.proofs.lemmas.Bool.{cases_eq}
 use Rattle.std.proofs.lemmas.Option.{slice_get-get_or, slice_get_within}
 use Rattle.tree_definitions.specs.Relation.{Has, Holds, IsAt}
@@ -14,9 +14,9 @@ loop-i-preserved c k q l kat held =
     let at : IsAt kids i x = slice_get-get_or kids i 0 c.loop-i-test.true in
     ⊎_elim
     (λ (e : k ≡ i).
-      let same : q ≡ x = at_unique kids i q x (subst (λ j. IsAt kids j q) e kat) at in
-      let b : true ≡ false = sym (c.is_held.ensures.1 (subst (λ z. IsHeld (Holds c.args.both.now) c.args.wides.now z (Has c.args.set.now)) same held)) ∙ c.if-is_held.false in
-      cc)
+    let same : q ≡ x = at_unique kids i q x (subst (λ j. IsAt kids j q) e kat) at in
+    let b : true ≡ false = sym (c.is_held.ensures.1 (subst (λ z. IsHeld (Holds c.args.both.now) c.args.wides.now z (Has c.args.set.now)) same held)) ∙ c.if-is_held.false in
+    cc)
     (λ (d : k ≢ i). c.loop-i.invariant k q (omega arith) kat held)
     (cases_eq k i)
 

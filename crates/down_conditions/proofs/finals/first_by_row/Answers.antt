@@ -14,7 +14,7 @@ loop-at-preserved c k f l kat =
     let at : IsAt finals i x = slice_get-get_or finals i 0 c.loop-at-test.true in
     ⊎_elim
     (λ (e : k ≡ i). subst (λ z. IsHeld (Holds c.args.both.now) c.args.pairs.now z (Has c.args.row.now)) (sym (at_unique finals i f x (subst (λ j. IsAt finals j f) e kat) at))
-        (c.is_held.ensures.0 c.if-not-is_held.false))
+    (c.is_held.ensures.0 c.if-not-is_held.false))
     (λ (d : k ≢ i). c.loop-at.invariant k f (omega arith) kat)
     (cases_eq k i)
 

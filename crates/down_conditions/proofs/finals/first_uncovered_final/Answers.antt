@@ -1,9 +1,7 @@
-use Rattle.std.proofs.Common.{◌≡◌, ◌↔◌, ◌<◌, ◌+◌, ℕ, List, length, sym, ap, ◌∙◌, subst, arith}
+use Rattle.std.proofs.Common.{◌↔◌, ℕ, List, length, sym, ap, ◌∙◌, subst, arith}
 use Rattle.std.specs.Prelude.{Contains}
 use Rattle.std.proofs.lemmas.Option.{IfSome_then}
 use Rattle.tree_definitions.specs.Automaton.{Automaton, IsFinal}
-use Rattle.tree_definitions.specs.Canonical.{canon}
-use Rattle.tree_definitions.specs.Cover.{Pair}
 use Rattle.tree_definitions.specs.DownCert.{IsCoveredDown}
 use Rattle.tree_definitions.specs.Relation.{Has, Holds}
 use Rattle.tree_definitions.proofs.InOrder.{canon_finals}
@@ -59,7 +57,7 @@ returns-clause-some c =
     let Open : ℕ → Type 0 = λ f. IsCoveredDown A R pairs f (IsFinal B) → ⊥ in
     IfSome_then c.first_by_row.result c.first_by_row.ensures.some
     (λ n first. subst (λ (xs : List ℕ). IsFirst (IsNth xs Open) n) same
-      (first_weaker (IsNth c.finals-2.result.now Out) (IsNth c.finals-2.result.now Open)
-      (nth_weaker c.finals-2.result.now Out Open (λ f out covered. out (covered_held A R pairs wides are (IsFinal B) (Has row) (λ s. (theirs s).1) f covered)))
-      (nth_weaker c.finals-2.result.now Open Out (λ f not held. not (held_covered A R pairs wides are (IsFinal B) (Has row) (λ s. (theirs s).0) f held)))
-      n first))
+    (first_weaker (IsNth c.finals-2.result.now Out) (IsNth c.finals-2.result.now Open)
+    (nth_weaker c.finals-2.result.now Out Open (λ f out covered. out (covered_held A R pairs wides are (IsFinal B) (Has row) (λ s. (theirs s).1) f covered)))
+    (nth_weaker c.finals-2.result.now Open Out (λ f not held. not (held_covered A R pairs wides are (IsFinal B) (Has row) (λ s. (theirs s).0) f held)))
+    n first))

@@ -1,4 +1,4 @@
-use Rattle.std.proofs.Common.{◌≡◌, ℕ, List, [], length, sym, ◌∙◌, subst, arith}
+use Rattle.std.proofs.Common.{ℕ, List, length, sym, subst, arith}
 use Rattle.tree_definitions.specs.Relation.{Holds}
 use Rattle.down_conditions.specs.Choosing.{AreSized, Covers, IsSearching, tuple_at}
 use Rattle.down_conditions.proofs.Stepping.{covers_grows}

@@ -1,4 +1,4 @@
-use Rattle.std.proofs.Common.{ℕ, length}
+use Rattle.std.proofs.Common.{length}
 use Rattle.tree_definitions.specs.Relation.{Holds}
 use Rattle.down_conditions.specs.Choosing.{AreSized, Covers, IsSearching, tuple_at, work_left}
 use Rattle.down_conditions.proofs.search.can_miss.Given as goal

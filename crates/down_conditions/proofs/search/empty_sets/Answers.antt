@@ -1,4 +1,4 @@
-use Rattle.std.proofs.Common.{◌+◌, ℕ, ◌++◌, [], ◌∷◌, List, sym, subst, arith}
+use Rattle.std.proofs.Common.{◌+◌, ℕ, List, sym, subst, arith}
 use Rattle.tree_definitions.specs.Relation.{Holds, Row}
 use Rattle.down_conditions.specs.Choosing.{AreSized}
 use Rattle.down_conditions.proofs.Sets.{empty_push, sized_push}

@@ -1,8 +1,8 @@
-use Rattle.std.proofs.Common.{◌≡◌, ◌+◌, ◌<◌, ◌≤◌, ◌++◌, [], ◌∷◌, ℕ, List, true, false, length, get_or, refl, sym, ap, ◌∙◌, subst, arith}
+use Rattle.std.proofs.Common.{◌≡◌, ◌+◌, ◌<◌, ◌++◌, [], ◌∷◌, ℕ, List, true, false, length, get_or, refl, sym, ap, ◌∙◌, subst, arith}
 use Rattle.std.proofs.lemmas.Option.{slice_get_read, slice_get-get_or}
 use Rattle.tree_definitions.specs.Automaton.{Rule}
 use Rattle.tree_definitions.specs.Relation.{Holds, IsAt, Matrix}
-use Rattle.down_conditions.specs.Choosing.{AreSized, Covers, IsFresh, IsSearching, tuple_at, work_left}
+use Rattle.down_conditions.specs.Choosing.{Covers, IsSearching, tuple_at, work_left}
 use Rattle.down_conditions.proofs.Stepping.{fresh_here, member_within, step_passes, step_sends, step_skips, tuple_is}
 use Rattle.down_conditions.proofs.Work.{work_next, work_sent}
 use Rattle.down_conditions.proofs.search.step.Goals as goal

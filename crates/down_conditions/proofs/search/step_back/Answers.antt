@@ -1,4 +1,4 @@
-use Rattle.std.proofs.Common.{◌≡◌, ◌+◌, ◌<◌, ◌≤◌, ◌++◌, [], ◌∷◌, ℕ, List, length, get_or, refl, sym, ap, ◌∙◌, subst, arith}
+use Rattle.std.proofs.Common.{◌≡◌, ◌+◌, ◌<◌, ◌++◌, [], ◌∷◌, ℕ, List, length, get_or, refl, sym, ap, ◌∙◌, subst, arith}
 use Rattle.std.proofs.lemmas.Option.{slice_get_read, slice_get-get_or}
 use Rattle.tree_definitions.specs.Automaton.{Rule}
 use Rattle.tree_definitions.specs.Relation.{Holds, IsAt}
@@ -157,4 +157,4 @@ returns-clause-less c t =
     let e : i ≡ length kids = omega (arith, small, large) in
     subst (λ (ps : List ℕ). work_left n count places (n + 1) < work_left n count ps next) (sym items)
     (subst (λ z. work_left n count places (z + 1) < work_left n count (places ++ i ∷ []) next) e
-      (work_back n count places i next room small c.requires.searching.bound))
+    (work_back n count places i next room small c.requires.searching.bound))

@@ -1,4 +1,4 @@
-use Rattle.std.proofs.Common.{◌≡◌, ◌≢◌, ◌+◌, inl, inr, ℕ, List, [], ◌∷◌, ◌++◌, length, refl, sym, ap, ◌∙◌, subst, arith, ⊎_elim}
+use Rattle.std.proofs.Common.{◌≡◌, ◌+◌, inl, inr, List, [], ◌∷◌, ◌++◌, length, refl, sym, ap, ◌∙◌, subst}
 use Rattle.std.proofs.lemmas.Option.{slice_get_read}
 use Rattle.tree_definitions.specs.Cover.{Pair}
 use Rattle.tree_definitions.specs.Relation.{IsAt}
@@ -24,8 +24,8 @@ loop-at-preserved c =
       each = λ k pair wide kat wat. elim (at_push old new k wide (subst (λ (xs : List Pair). IsAt xs k wide) items wat)) [
         | inl before ↦ inv.each k pair wide kat before
         | inr here ↦
-          let e : k ≡ i = here.0 ∙ inv.long in
-          let same : pair ≡ this = at_unique pairs i pair this (subst (λ j. IsAt pairs j pair) e kat) at in
-          subst (λ (x : Pair). IsShifted c.args.m x wide) (sym same) (subst (IsShifted c.args.m this) (sym here.1) c.in_ok-wide.ensures.shifted)
+            let e : k ≡ i = here.0 ∙ inv.long in
+            let same : pair ≡ this = at_unique pairs i pair this (subst (λ j. IsAt pairs j pair) e kat) at in
+            subst (λ (x : Pair). IsShifted c.args.m x wide) (sym same) (subst (IsShifted c.args.m this) (sym here.1) c.in_ok-wide.ensures.shifted)
       ];
     }

@@ -1,4 +1,4 @@
-use Rattle.std.proofs.Common.{◌≡◌, ◌<◌, ℕ, length}
+use Rattle.std.proofs.Common.{◌≡◌, ℕ, length}
 use Rattle.tree_definitions.specs.Cover.{Pair}
 use Rattle.tree_definitions.specs.Relation.{IsAt}
 use Rattle.down_conditions.specs.Covering.{IsShifted}
