@@ -3,6 +3,7 @@ pub mod Chosen
 pub mod Downed
 pub mod Bounded
 pub mod Filed
+pub mod Marks
 pub mod Others
 pub mod Pushed
 pub mod Samples

@@ -1,18 +1,19 @@
 //! Which pairs a choice of places refutes.
 
-ghost use Rattle.std.specs.Prelude.{◌≡◌, ◌<◌, ◌+◌, ◌↔◌, ℕ, List, All, Contains, IfNone, IfOk, IfSome, IsTrue, length, not};
+ghost use Rattle.std.specs.Prelude.{◌≡◌, ◌<◌, ◌≤◌, ◌+◌, ◌↔◌, ℕ, List, All, Contains, IfNone, IfOk, IfSome, IsTrue, length, not};
 ghost use Rattle.tree_definitions.specs.Tree.{Symbol};
 ghost use Rattle.tree_definitions.specs.Cover.{FitsPair, Pair};
 ghost use Rattle.tree_definitions.specs.Relation.{Has, Holds, IsAt};
 ghost use Rattle.trim_ops.specs.Marking.{IsByParent};
 ghost use Rattle.down_conditions.specs.Covering.{AreShifted, IsHeld};
 ghost use Rattle.down_conditions.specs.Filing.{AreByState, AreBySymbol};
-ghost use Rattle.down_conditions.specs.Refuting.{IsRefuted, IsRuleCovered, IsSplitCovered, Refutes};
+ghost use Rattle.down_conditions.specs.Refuting.{AreDowns, IsRefuted, IsRuleCovered, IsSplitCovered, Refutes};
 ghost use Rattle.listed_pairs.specs.Places.{IsFirst, IsNth};
 ghost use Rattle.listed_pairs.specs.Within.{AreWithin};
 
 use crate::by_state::{is_held, pairs_by_state};
 use crate::downs::{downs, rules_by_symbol};
+use crate::order::forced_first;
 use crate::search::can_miss;
 use crate::shift::shifted_pairs;
 use bit_matrix::Matrix;
@@ -38,6 +39,38 @@ fn some_held(both: &Matrix, wides: &[Pair], by_state: &RuleIndex, kids: &[u32], 
         }
     }
     false
+}
+
+/// The rules of B under the symbol whose parent is in the set, those first whose children have at
+/// most one place left.
+fn downs_in_order(
+    alloc: Global,
+    b: &Listed,
+    alphabet: &Alphabet,
+    by_symbol: &RuleIndex,
+    both: &Matrix,
+    wides: &[Pair],
+    by_state: &RuleIndex,
+    symbol: &Symbol,
+    kids: &[u32],
+    m: usize,
+    set: &Row,
+) -> Result<Vec<u32>, AllocError>
+    requires both { m + length b.now.states ≤ length both.now }
+    requires alphabet { alphabet.now ≡ b.now.symbols }
+    requires by_symbol { AreBySymbol b.now.rules by_symbol.now }
+    requires symbols { length by_symbol.now ≡ length b.now.symbols }
+    requires within { AreWithin (length both.now) (length both.now) wides.now }
+    requires by_state { AreByState wides.now by_state.now }
+    requires index { length by_state.now ≡ length both.now }
+    requires rank { length kids.now ≡ symbol.now.rank }
+    requires kids { All (λ q. q < length both.now) kids.now }
+    requires set { length set.now ≡ length b.now.states }
+    ensures within { IfOk result (λ v. All (λ r. r < length b.now.rules) v.items) }
+    ensures downs { IfOk result (λ v. AreDowns b.now symbol.now set.now v.items) }
+{
+    let list = downs(alloc, b, alphabet, by_symbol, symbol, set)?;
+    forced_first(alloc, b.rules(), &list, kids, m, both, wides, by_state)
 }
 
 /// Whether some choice refutes the rule of A with this symbol and these children, for a set.
@@ -75,8 +108,10 @@ fn rule_is_refuted(
     if some_held(both, wides, by_state, kids, empty) {
         return Ok(false);
     }
-    let list = downs(alloc, b, alphabet, by_symbol, symbol, set)?;
     let m = a.states().len();
+    let list = downs_in_order(
+        alloc, b, alphabet, by_symbol, both, wides, by_state, symbol, kids, m, set,
+    )?;
     can_miss(alloc, b.rules(), &list, kids, m, both, wides, by_state)
 }
 

@@ -11,6 +11,7 @@ mod choices;
 mod downs;
 mod downward;
 mod finals;
+mod order;
 mod search;
 mod shift;
 #[cfg(test)]
