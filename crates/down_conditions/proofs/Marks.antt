@@ -1,5 +1,5 @@
 -- A mark is set or not.
-use Rattle.std.proofs.Common.{◌≡◌, ◌⊎◌, inl, inr, ℕ, zero, suc, ◌<◌, List, [], ◌∷◌, Bool, true, false, length, refl, arith}
+use Rattle.std.proofs.Common.{◌⊎◌, inl, inr, ℕ, zero, suc, ◌<◌, List, [], ◌∷◌, Bool, true, false, length, refl, arith}
 use Rattle.tree_definitions.specs.Relation.{IsAt}
 
 pub by_mark : (marks : List Bool) (k : ℕ) → k < length marks → IsAt marks k true ⊎ IsAt marks k false

@@ -1,5 +1,5 @@
 -- The automata of the tests are well formed.
-use Rattle.std.proofs.Common.{◌≡◌, ◌≢◌, ◌<◌, ℕ, zero, suc, List, [], ◌∷◌, Result, Ok, refl, sym, ap, ◌∙◌, subst, arith}
+use Rattle.std.proofs.Common.{◌≡◌, ◌≢◌, ◌<◌, ℕ, zero, suc, List, [], ◌∷◌, Result, Ok, refl, ap, subst, arith}
 use Rattle.std.specs.Prelude.{All, AllPairs, IfOk}
 use Rattle.std.proofs.lemmas.List.Elements.{All-cons, All-nil}
 use Rattle.tree_definitions.specs.Tree.{Symbol}

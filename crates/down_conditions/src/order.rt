@@ -105,12 +105,7 @@ fn forced(
 }
 
 /// Adds the number if its mark is the wanted one.
-fn add_wanted(
-    chosen: &mut Vec<u32>,
-    r: u32,
-    mark: bool,
-    wanted: bool,
-) -> Result<(), AllocError>
+fn add_wanted(chosen: &mut Vec<u32>, r: u32, mark: bool, wanted: bool) -> Result<(), AllocError>
     ensures { IfOk result (λ _. (x : ℕ) → Contains chosen.new.items x ↔ (Contains chosen.old.items x ⊎ ((x ≡ r) × (mark ≡ wanted)))) }
 {
     if mark != wanted {

@@ -155,7 +155,7 @@ fn step(
     put(&mut search.sets, i, s);
     if is_held(both, pairs, by_state, kids[i] as usize, &search.sets[i]) {
         take(&mut search.sets, i, s);
-        search.next = i + 1;
+        search.next += 1;
         return Ok(true);
     }
     search.places.push(i)?;

@@ -1,4 +1,4 @@
-use Rattle.std.proofs.Common.{◌≡◌, ◌↔◌, ◌<◌, ℕ, List, length, get_or, sym, ap, ◌∙◌, subst}
+use Rattle.std.proofs.Common.{◌≡◌, ◌↔◌, ◌<◌, ℕ, List, length, get_or, sym, ◌∙◌, subst}
 use Rattle.std.specs.Prelude.{All, Contains}
 use Rattle.std.proofs.lemmas.List.Elements.{All-contains, Contains-get_or}
 use Rattle.std.proofs.lemmas.Result.{IfOk-weaker}
@@ -35,8 +35,8 @@ returns-clause-within c =
     let items = c.in_ok-list.list.items in
     IfOk-weaker c.forced_first.result (λ v. (x : ℕ) → Contains v.items x ↔ Contains list x) (λ v. All (λ r. r < length B.rules) v.items)
     (λ v same i d l.
-      let r = get_or v.items i d in
-      All-contains (λ r. r < length B.rules) items r c.in_ok-list.ensures.within (subst (λ (xs : List ℕ). Contains xs r) c.deref.ensures.value ((same r).0 (Contains-get_or v.items i d l))))
+    let r = get_or v.items i d in
+    All-contains (λ r. r < length B.rules) items r c.in_ok-list.ensures.within (subst (λ (xs : List ℕ). Contains xs r) c.deref.ensures.value ((same r).0 (Contains-get_or v.items i d l))))
     c.forced_first.ensures
 
 pub returns-clause-downs : goal.returns-clause-downs
@@ -47,9 +47,9 @@ returns-clause-downs c =
     let list = c.deref.result.now in
     IfOk-weaker c.forced_first.result (λ v. (x : ℕ) → Contains v.items x ↔ Contains list x) (λ v. AreDowns B a set v.items)
     (λ v same tuple.
-      let downs = c.in_ok-list.ensures.downs tuple in
-      let e = c.deref.ensures.value in (
-        λ h. downs.0 (h.0, h.1, subst (λ (xs : List ℕ). Contains xs h.0) e ((same h.0).0 h.2), h.3, h.4),
-        λ d. let h = downs.1 d in (h.0, h.1, (same h.0).1 (subst (λ (xs : List ℕ). Contains xs h.0) (sym e) h.2), h.3, h.4),
-      ))
+    let downs = c.in_ok-list.ensures.downs tuple in
+    let e = c.deref.ensures.value in (
+      λ h. downs.0 (h.0, h.1, subst (λ (xs : List ℕ). Contains xs h.0) e ((same h.0).0 h.2), h.3, h.4),
+      λ d. let h = downs.1 d in (h.0, h.1, (same h.0).1 (subst (λ (xs : List ℕ). Contains xs h.0) (sym e) h.2), h.3, h.4),
+    ))
     c.forced_first.ensures

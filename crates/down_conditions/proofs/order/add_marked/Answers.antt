@@ -1,4 +1,4 @@
-use Rattle.std.proofs.Common.{◌≡◌, ◌≢◌, inl, inr, length, get_or, refl, sym, ap, ◌∙◌, subst, arith, ⊎_elim}
+use Rattle.std.proofs.Common.{◌≡◌, ◌≢◌, inl, inr, get_or, sym, subst, arith, ⊎_elim}
 use Rattle.std.proofs.lemmas.Bool.{cases_eq}
 use Rattle.std.proofs.lemmas.Option.{slice_get-get_or, slice_get_within}
 use Rattle.tree_definitions.specs.Relation.{IsAt}
@@ -13,8 +13,7 @@ loop-k-preserved c x =
     let i = c.loop-k.k in
     let r = get_or list i 0 in
     let lat : IsAt list i r = slice_get-get_or list i 0 c.loop-k-test.true in
-    let got = c.get.ensures.value in
-    (
+    let got = c.get.ensures.value in (
       λ h. elim ((c.in_ok-add_wanted.ensures x).0 h) [
         | inl before ↦ elim ((c.loop-k.invariant x).0 before) [
           | inl old ↦ inl old
@@ -27,7 +26,8 @@ loop-k-preserved c x =
         | inr k ↦ ⊎_elim
             (λ (e : k.0 ≡ i). (c.in_ok-add_wanted.ensures x).1 (inr (
               at_unique list i x r (subst (λ z. IsAt list z x) e k.2) lat,
-              at_unique marks i c.get.result mark got (subst (λ z. IsAt marks z mark) e k.3))))
+              at_unique marks i c.get.result mark got (subst (λ z. IsAt marks z mark) e k.3),
+            )))
             (λ (d : k.0 ≢ i). (c.in_ok-add_wanted.ensures x).1 (inl ((c.loop-k.invariant x).1 (inr (k.0, (let l = k.1 in omega (arith, l, d)), k.2, k.3)))))
             (cases_eq k.0 i)
       ],
@@ -39,7 +39,7 @@ returns c x = (
   λ h. elim h [
     | inl old ↦ (c.loop-k.invariant x).1 (inl old)
     | inr k ↦
-      let w = slice_get_within c.args.list.now k.0 x k.1 in
-      (c.loop-k.invariant x).1 (inr (k.0, omega (arith, w, c.loop-k-test.false), k.1, k.2))
+        let w = slice_get_within c.args.list.now k.0 x k.1 in
+        (c.loop-k.invariant x).1 (inr (k.0, omega (arith, w, c.loop-k-test.false), k.1, k.2))
   ],
 )

@@ -1,16 +1,14 @@
-use Rattle.std.proofs.Common.{◌≡◌, inl, inr, List, [], true, false, length, subst, arith, sym}
+use Rattle.std.proofs.Common.{inl, inr, List, subst, arith}
 use Rattle.std.specs.Prelude.{Contains}
 use Rattle.std.proofs.lemmas.Option.{slice_get_within}
-use Rattle.tree_definitions.specs.Relation.{IsAt}
-use Rattle.tree_definitions.proofs.Members.{at_within, contains_at, contains_none, place_of}
+use Rattle.tree_definitions.proofs.Members.{contains_at, contains_none, place_of}
 use Rattle.down_conditions.proofs.Marks.{by_mark}
 use Rattle.down_conditions.proofs.order.forced_first.Goals as goal
 
 pub returns : goal.returns
 returns c x =
     let list = c.args.list.now in
-    let marks = c.in_ok-marks.marks in
-    (
+    let marks = c.in_ok-marks.marks in (
       λ h. elim ((c.in_ok-add_marked-2.ensures x).0 h) [
         | inl first ↦ elim ((c.in_ok-add_marked.ensures x).0 first) [
           | inl none ↦ absurd (contains_none x (subst (λ (xs : List _). Contains xs x) c.in_ok-order.ensures.items none))
