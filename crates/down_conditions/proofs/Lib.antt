@@ -1,0 +1,15 @@
+pub mod Blocks
+pub mod Chosen
+pub mod Downed
+pub mod Bounded
+pub mod Filed
+pub mod Marks
+pub mod Others
+pub mod Pushed
+pub mod Samples
+pub mod Sets
+pub mod Shifting
+pub mod Stepping
+pub mod Steps
+pub mod Work
+pub mod Zips
