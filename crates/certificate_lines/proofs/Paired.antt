@@ -1,7 +1,7 @@
 -- What is said of the lines of pairs.
-use Rattle.std.proofs.Common.{◌≡◌, ℕ, ◌+◌, ◌-◌, ◌<◌, ◌≤◌, Bool, true, false, cond, ◌&&◌, List, [], ◌∷◌, ◌++◌, length, length-append, take, drop, get_or, Option, Some, None, refl, sym, ap, ◌∙◌, subst, arith}
-use Rattle.std.specs.Prelude.{All, nat_le, codes}
-use Rattle.std.specs.List.{list_all, position, join_with_byte}
+use Rattle.std.proofs.Common.{◌≡◌, ℕ, ◌+◌, ◌-◌, ◌<◌, ◌≤◌, Bool, true, false, cond, ◌&&◌, List, [], ◌∷◌, ◌++◌, length, length-append, take, drop, Option, Some, None, refl, sym, ap, ◌∙◌, subst, arith}
+use Rattle.std.specs.Prelude.{All, codes}
+use Rattle.std.specs.List.{list_all, join_with_byte}
 use Rattle.std.specs.Str.{bytes_eq}
 use Rattle.std.proofs.lemmas.Bool.{le-leb, lt-leb}
 use Rattle.std.proofs.lemmas.List.{length-take-le, take_rest}
@@ -12,9 +12,9 @@ use Rattle.std.proofs.lemmas.Slice.Eq.{bytes_eq-Decides}
 use Rattle.tree_definitions.specs.Automaton.{Automaton}
 use Rattle.tree_definitions.specs.Cover.{Pair}
 use Rattle.tree_definitions.specs.Name.{is_name}
-use Rattle.witness_trees.specs.Judged.{Verdict, Is, BadAt, UnknownAt, then_judged, cut_at, pieces_at}
+use Rattle.witness_trees.specs.Judged.{Verdict, Is, BadAt, then_judged, cut_at, pieces_at}
 use Rattle.certificate_lines.specs.Lines.{Piece, line_then, lines_in, count_in, end_at}
-use Rattle.certificate_lines.specs.Pairs.{state_in, state_then, states_in, spelled_names, spelled_words, state_and_names, pair_in, counted_pairs, pairs_in}
+use Rattle.certificate_lines.specs.Pairs.{state_in, state_then, states_in, spelled_words, state_and_names, pair_in, counted_pairs, pairs_in}
 use Rattle.certificate_lines.specs.Telling.{span}
 
 -- what is found is a place of the list

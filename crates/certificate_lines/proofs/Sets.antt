@@ -1,7 +1,7 @@
 -- Sets made of their members one by one.
-use Rattle.std.proofs.Common.{◌≡◌, ℕ, ◌+◌, ◌<◌, ◌≤◌, Bool, true, false, ◌⊎◌, inl, inr, List, [], ◌∷◌, ◌++◌, length, take, get_or, Contains, Some, refl, sym, ap, ◌∙◌, subst, arith, ⊎_elim}
+use Rattle.std.proofs.Common.{◌≡◌, ℕ, ◌+◌, ◌<◌, ◌≤◌, true, false, ◌⊎◌, inl, inr, List, [], ◌∷◌, ◌++◌, length, take, get_or, Contains, Some, sym, ap, ◌∙◌, subst, arith, ⊎_elim}
 use Rattle.std.specs.Prelude.{◌↔◌, All, nat_eq}
-use Rattle.std.specs.List.{list_any, range_with_len}
+use Rattle.std.specs.List.{list_any}
 use Rattle.std.proofs.lemmas.Bool.Decides.{Decides-eqb}
 use Rattle.std.proofs.lemmas.List.{take_more, take_all}
 use Rattle.std.proofs.lemmas.List.Elements.{All-contains, Contains-append_left, Contains-push, Contains-push_cases}
@@ -30,7 +30,7 @@ with_has n places s = (
       let at = h.1 in
       slice_get-get_or (row_with n places) s false (omega (arith, l, long))
       ∙ ap Some (get_or-map-range_with_len (λ j. list_any (nat_eq j) places) 0 n s s false l (omega arith)
-        ∙ list_any_at (nat_eq s) places at.0 s at.1 ((Decides-eqb s (get_or places at.0 s)).1 (sym at.2))),
+      ∙ list_any_at (nat_eq s) places at.0 s at.1 ((Decides-eqb s (get_or places at.0 s)).1 (sym at.2))),
 )
 
 pub set_is : (n k : ℕ) (places : List ℕ) (row : Row) → length places ≤ k → All (λ s. s < n) places → length row ≡ n → ((s : ℕ) → Has row s ↔ Contains (take k places) s) → row ≡ row_with n places
@@ -47,11 +47,11 @@ one_more_member places k row new l old more s =
     let grown = take_more places k 0 l in
     let here = get_or places k 0 in (
       λ h. subst (λ xs. Contains xs s) (sym grown) (⊎_elim
-        (λ (e : s ≡ here). subst (Contains (take k places ++ here ∷ [])) (sym e) (Contains-push (take k places) here))
-        (λ (o : Has row s). Contains-append_left (take k places) (here ∷ []) s ((old s).0 o))
-        ((more s).0 h)),
+          (λ (e : s ≡ here). subst (Contains (take k places ++ here ∷ [])) (sym e) (Contains-push (take k places) here))
+          (λ (o : Has row s). Contains-append_left (take k places) (here ∷ []) s ((old s).0 o))
+          ((more s).0 h)),
       λ h. (more s).1 (⊎_elim
-        (λ (o : Contains (take k places) s). inr ((old s).1 o))
-        (λ (e : here ≡ s). inl (sym e))
-        (Contains-push_cases (take k places) here s (subst (λ xs. Contains xs s) grown h))),
+          (λ (o : Contains (take k places) s). inr ((old s).1 o))
+          (λ (e : here ≡ s). inl (sym e))
+          (Contains-push_cases (take k places) here s (subst (λ xs. Contains xs s) grown h))),
     )

@@ -1,10 +1,10 @@
 -- Words of a line, and the states that they name.
-use Rattle.std.proofs.Common.{◌≡◌, ℕ, zero, suc, ◌+◌, ◌<◌, ◌≤◌, Bool, true, false, cond, ◌&&◌, List, [], ◌∷◌, ◌++◌, length, take, drop, get_or, map, Bor, Option, Some, None, Err, refl, sym, ap, ap₂, ◌∙◌, subst, arith}
+use Rattle.std.proofs.Common.{◌≡◌, ℕ, ◌+◌, ◌<◌, ◌≤◌, Bool, true, false, cond, ◌&&◌, List, [], ◌∷◌, ◌++◌, length, take, drop, get_or, map, Bor, Some, None, Err, refl, sym, ap, ap₂, ◌∙◌, arith}
 use Rattle.std.specs.List.{list_all}
 use Rattle.std.proofs.lemmas.List.{take_more, take_all, drop_more, drop_all, map-append, get_or-map, length-map}
 use Rattle.std.proofs.lemmas.List.Folds.{list_all-append, list_all_at}
 use Rattle.tree_definitions.specs.Name.{is_name}
-use Rattle.witness_trees.specs.Judged.{Verdict, Is, BadAt, UnknownAt}
+use Rattle.witness_trees.specs.Judged.{Is, UnknownAt}
 use Rattle.witness_trees.specs.Answers.{Spells}
 use Rattle.witness_trees.specs.declared.reader.NodesTextError.{NodesTextError}
 use Rattle.witness_trees.specs.declared.reader.NodesTextError.TheVariants as errors
@@ -68,7 +68,7 @@ module _ (states names : List (List ℕ)) (k at : ℕ) (read : List ℕ) (name :
       let width : span (drop k names) ≡ length name + 1 + span (drop (k + 1) names) = ap span rest in
       let s = ap length same in (
         ap₂ (λ n xs. states_in states n xs (drop (k + 1) names)) (sym e) grown
-        ∙ ap (state_then at (λ q. states_in states (at + length name + 1) (read ++ q ∷ []) (drop (k + 1) names))) found ∙ sym turn,
+            ∙ ap (state_then at (λ q. states_in states (at + length name + 1) (read ++ q ∷ []) (drop (k + 1) names))) found ∙ sym turn,
         omega (arith, s, width),
       )
 

@@ -2,3 +2,4 @@ pub mod Lines
 pub mod Relations
 pub mod Pairs
 pub mod Telling
+pub mod PairsRead

@@ -1,7 +1,7 @@
 -- Lines of a certificate, and what reading says of several of them.
 use Rattle.std.specs.Prelude.{ℕ, zero, suc, ◌+◌, Bool, nat_eq, ◌&&◌, nat_le, List, [], ◌∷◌, ◌++◌, length, drop, Option, Some, None, if◌then◌else◌}
 use Rattle.std.specs.List.{starts_with}
-use Rattle.witness_trees.specs.Judged.{Verdict, Is, BadAt, UnknownAt, then_judged, cut_at, is_number, number_of}
+use Rattle.witness_trees.specs.Judged.{Verdict, Is, BadAt, then_judged, cut_at, is_number, number_of}
 
 -- what was read, and the byte behind it
 pub record Piece (X : Type 0) : Type 0 where

@@ -1,5 +1,5 @@
 -- The lines of pairs.
-use Rattle.std.specs.Prelude.{ℕ, ◌+◌, ◌-◌, Bool, true, ◌&&◌, nat_eq, List, [], ◌∷◌, ◌++◌, length, drop, codes, Option, Some, None, slice_get, if◌then◌else◌}
+use Rattle.std.specs.Prelude.{ℕ, ◌+◌, ◌-◌, Bool, true, ◌&&◌, List, [], ◌∷◌, ◌++◌, length, drop, codes, Option, Some, None, slice_get, if◌then◌else◌}
 use Rattle.std.specs.Option.{option_map_or}
 use Rattle.std.specs.List.{flat_map, list_all, position}
 use Rattle.std.specs.Fmt.{decimal}
@@ -11,7 +11,7 @@ use Rattle.tree_definitions.specs.Cover.{Pair}
 use Rattle.listed_pairs.specs.Members.{members, row_with}
 use Rattle.listed_pairs.specs.Order.{pair_cmp}
 use Rattle.witness_trees.specs.Judged.{Verdict, Is, BadAt, UnknownAt, then_judged, cut_at, pieces_at}
-use Rattle.certificate_lines.specs.Lines.{Piece, line_then, lines_in, count_in, end_at}
+use Rattle.certificate_lines.specs.Lines.{line_then, lines_in, count_in, end_at}
 
 -- the name of the state at this place
 abbrev pub state_name : List (List ℕ) → ℕ → List ℕ
@@ -51,7 +51,7 @@ pair_judged A B read at line pair = if bytes_eq (pair_text A B pair) line && com
 abbrev pub pair_named : Automaton → Automaton → List Pair → ℕ → List ℕ → List ℕ → List (List ℕ) → Verdict Pair
 pair_named A B read at line state words =
     state_then at (λ q. then_judged (states_in B.states (at + length state + 3) [] words) (λ places.
-      pair_judged A B read at line (record { state = q; set = row_with (length B.states) places }))) (state_in A.states state)
+    pair_judged A B read at line (record { state = q; set = row_with (length B.states) places }))) (state_in A.states state)
 
 -- the words, where each is a name
 abbrev pub spelled_names : List (List ℕ) → Option (List (List ℕ))

@@ -1,11 +1,11 @@
 -- The lines of a relation.
-use Rattle.std.specs.Prelude.{ℕ, zero, suc, ◌+◌, ◌-◌, ◌*◌, ◌/◌, ◌%◌, Bool, true, false, ◌==◌, nat_eq, nat_le, List, [], ◌∷◌, ◌++◌, length, map, codes, Option, Some, None, slice_get, if◌then◌else◌}
+use Rattle.std.specs.Prelude.{◌≡◌, ◌≤◌, ℕ, zero, suc, ◌+◌, ◌-◌, ◌*◌, ◌/◌, ◌%◌, Bool, ◌==◌, nat_eq, nat_le, List, [], ◌∷◌, ◌++◌, length, drop, map, codes, slice_get, if◌then◌else◌}
 use Rattle.std.proofs.Math.Bool.{beq}
 use Rattle.std.specs.Option.{option_map_or}
 use Rattle.std.specs.List.{flat_map, range_with_len}
 use Rattle.std.specs.Cmp.Lexicographic.{pointwise}
 use Rattle.std.specs.Str.{bytes_eq}
-use Rattle.tree_definitions.specs.Relation.{Row, Matrix}
+use Rattle.tree_definitions.specs.Relation.{Row, Matrix, IsSquare}
 use Rattle.witness_trees.specs.Judged.{Verdict, Is, BadAt, then_judged}
 use Rattle.certificate_lines.specs.Lines.{Piece, stands_at, lines_in}
 
@@ -83,7 +83,14 @@ but_identity at piece = if is_identity piece.value then BadAt at else Is piece
 unfoldable pub relation_in : List ℕ → ℕ → List ℕ → ℕ → Verdict (Piece Matrix)
 relation_in word n text at =
     if nat_le n 20000 then (
-      if stands_at (identity_line word) text at then Is (record { value = identity n; after = at + length (identity_line word) })
-      else if stands_at (rows_line word) text at then then_judged (lines_in (row_in n) text n (at + length (rows_line word)) []) (but_identity at)
-      else BadAt at
+    if stands_at (identity_line word) text at then Is (record { value = identity n; after = at + length (identity_line word) })
+    else if stands_at (rows_line word) text at then then_judged (lines_in (row_in n) text n (at + length (rows_line word)) []) (but_identity at)
+    else BadAt at
     ) else BadAt at
+
+-- what was read is a relation of n places, whose lines stand at this byte
+pub record IsRelationAt (word : List ℕ) (n : ℕ) (text : List ℕ) (at : ℕ) (piece : Piece Matrix) : Type 0 where
+  pub few : n ≤ 20000
+  pub square : IsSquare n piece.value
+  pub within_text : piece.after ≤ length text
+  pub printed : drop at text ≡ relation_text word piece.value ++ drop piece.after text

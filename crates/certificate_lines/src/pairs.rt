@@ -117,11 +117,7 @@ fn names_of(alloc: Global, at: u64, words: &[&[u8]]) -> Result<Vec<Name>, NodesT
 }
 
 /// The names of a pair's state and of its members.
-fn spelled_of(
-    alloc: Global,
-    at: u64,
-    words: &[&[u8]],
-) -> Result<(Name, Vec<Name>), NodesTextError>
+fn spelled_of(alloc: Global, at: u64, words: &[&[u8]]) -> Result<(Name, Vec<Name>), NodesTextError>
     ensures { Spells {Y = List ℕ × List (List ℕ)} at (λ r. (r.0, r.1.items)) result (spelled_words (map (λ x. x.now) words.now)) }
 {
     let [state, colon, members @ ..] = words else {
@@ -355,11 +351,10 @@ pub fn read_pairs(
     let Ok(right) = StatePlaces::of(alloc, b.states()) else {
         return Err(NodesTextError::Memory);
     };
-    let (pairs, after) =
-        match read_lines(alloc, a, b, &left, &right, text, due, at + end + 1) {
-            Ok(found) => found,
-            Err(error) => return Err(error),
-        };
+    let (pairs, after) = match read_lines(alloc, a, b, &left, &right, text, due, at + end + 1) {
+        Ok(found) => found,
+        Err(error) => return Err(error),
+    };
     if after < text.len() {
         return Err(NodesTextError::BadText { at: after as u64 });
     }

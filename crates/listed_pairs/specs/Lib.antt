@@ -2,3 +2,4 @@ pub mod Places
 pub mod Within
 pub mod Members
 pub mod Order
+pub mod DownEntries

@@ -7,9 +7,10 @@ ghost use Rattle.tree_definitions.specs.UpTrail.{UpEntry as UpEntrySpec};
 ghost use Rattle.listed_pairs.specs.Places.{IsFirst};
 ghost use Rattle.up_conditions.specs.Trailing.{AreEntriesWithin, AreFiledBefore, IsCoveredBefore, IsCoveredEntry, IsCoveredFrom, IsNthAt};
 
-use crate::entry::{UpEntry, pair_of};
+use crate::entry::pair_of;
 use bit_matrix::Matrix;
 use bit_rows::Row;
+use listed_pairs::UpEntry;
 use std::alloc::{AllocError, Global};
 use trim_ops::RuleIndex;
 

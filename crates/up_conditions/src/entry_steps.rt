@@ -10,10 +10,11 @@ ghost use Rattle.up_conditions.specs.Stepping.{AreListsOf, AreUnder};
 ghost use Rattle.up_conditions.specs.Trailing.{HasSetAt, HasStateAt, IsStepBy};
 
 use crate::choices::{parents_at_end, with_next_kid_in};
-use crate::entry::{UpEntry, pair_of};
+use crate::entry::pair_of;
 use crate::sorted_rules::SortedRules;
 use crate::step_index::StepIndex;
 use bit_rows::Row;
+use listed_pairs::UpEntry;
 use smallvec::SmallVec;
 use std::alloc::{AllocError, Global};
 use ta_model::{Kids, Listed, Rule, Symbol};

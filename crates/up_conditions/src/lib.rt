@@ -22,9 +22,9 @@ mod upward;
 
 pub use apart::first_covered;
 pub use covering::{first_uncovered_leaf, first_uncovered_rule};
-pub use entry::UpEntry;
 pub use entry_covers::first_covered_entry;
 pub use finals::first_rejecting;
+pub use listed_pairs::UpEntry;
 pub use stepping::{post, rules_by_symbol};
 pub use trail::{first_rejecting_entry, first_wrong_step};
 pub use upward::is_up_simulation;

@@ -10,12 +10,13 @@ ghost use Rattle.up_conditions.specs.Listed.{RejectsBy};
 ghost use Rattle.up_conditions.specs.Stepping.{AreListsOf};
 ghost use Rattle.up_conditions.specs.Trailing.{AllAtBefore, AreEntriesWithin, FitEntries, IsCoveredEntry, IsNthAt, IsStepBy, NameEarlier, RejectsEntry};
 
-use crate::entry::{UpEntry, pair_of};
+use crate::entry::pair_of;
 use crate::entry_steps::is_step;
 use crate::finals::{rejects, row_of};
 use crate::sorted_rules::SortedRules;
 use crate::step_index::StepIndex;
 use bit_rows::Row;
+use listed_pairs::UpEntry;
 use std::alloc::{AllocError, Global};
 use ta_model::{Listed, Symbol};
 

@@ -1,7 +1,7 @@
-use Rattle.std.proofs.Common.{◌≡◌, ◌<◌, ℕ, List, [], Bor, Vec, Global, length, get_or, ap, sym, ◌∙◌}
+use Rattle.std.proofs.Common.{◌≡◌, ◌<◌, ℕ, List, [], Bor, Vec, Global, length, get_or}
 use Rattle.std.proofs.lemmas.List.{get_or_default}
 use Rattle.ta_model.specs.declared.name.Name.{Name}
-use Rattle.certificate_lines.proofs.Worded.{not_spelled, one_name_more, all_named}
+use Rattle.certificate_lines.proofs.Worded.{not_spelled, one_name_more}
 use Rattle.certificate_lines.proofs.pairs.names_of.Goals as goal
 
 -- the word at this place
@@ -22,5 +22,5 @@ loop-k-preserved c =
     let words = c.args.words.now in
     let k = c.loop-k.k in
     let m = one_name_more words k (word_at words k) c.loop-k-test.true (word_is words k c.loop-k-test.true) c.loop-k.names.items c.push.new.self.items c.in-Ok-name_of.name
-        c.loop-k.invariant.names c.loop-k.invariant.right c.in-Ok-name_of.ensures c.in-Ok-push.ensures.items in
+    c.loop-k.invariant.names c.loop-k.invariant.right c.in-Ok-name_of.ensures c.in-Ok-push.ensures.items in
     record { names = m.0; right = m.1 }

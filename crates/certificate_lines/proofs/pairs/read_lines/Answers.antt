@@ -1,4 +1,4 @@
-use Rattle.std.proofs.Common.{◌≡◌, ◌+◌, ◌-◌, [], List, Err, Vec, Global, take, drop, subst, sym, ap, ◌∙◌}
+use Rattle.std.proofs.Common.{◌+◌, ◌-◌, List, Err, Vec, Global, take, drop, subst, sym, ap, ◌∙◌}
 use Rattle.tree_definitions.specs.Cover.{Pair}
 use Rattle.witness_trees.specs.Answers.{Answers}
 use Rattle.certificate_lines.specs.Pairs.{pair_in}

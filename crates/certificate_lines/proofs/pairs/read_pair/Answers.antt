@@ -1,4 +1,4 @@
-use Rattle.std.proofs.Common.{◌≡◌, ◌<◌, ◌+◌, ℕ, List, Bor, Some, length, map, sym, ap, ◌∙◌, subst, arith}
+use Rattle.std.proofs.Common.{ℕ, List, Bor, map, sym, ap, ◌∙◌, arith}
 use Rattle.certificate_lines.specs.Pairs.{spelled_words}
 use Rattle.certificate_lines.specs.Telling.{span}
 use Rattle.certificate_lines.proofs.Paired.{words_span}

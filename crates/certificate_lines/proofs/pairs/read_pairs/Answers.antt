@@ -1,4 +1,4 @@
-use Rattle.std.proofs.Common.{◌≡◌, List, ◌+◌, ◌-◌, take, drop, sym, ◌∙◌}
+use Rattle.std.proofs.Common.{List, ◌+◌, ◌-◌, take, drop, ◌∙◌}
 use Rattle.tree_definitions.specs.Cover.{Pair}
 use Rattle.certificate_lines.specs.Lines.{Piece}
 use Rattle.certificate_lines.proofs.Paired.{pairs_judged, ends_right, ends_early}

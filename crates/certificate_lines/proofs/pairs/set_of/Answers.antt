@@ -1,4 +1,4 @@
-use Rattle.std.proofs.Common.{◌≡◌, length, ◌∙◌}
+use Rattle.std.proofs.Common.{◌∙◌}
 use Rattle.certificate_lines.proofs.Sets.{one_more_member, set_is}
 use Rattle.certificate_lines.proofs.pairs.set_of.Goals as goal
 

@@ -1,10 +1,10 @@
-use Rattle.std.proofs.Common.{◌≡◌, ◌++◌, true, false, List, length, sym, ap, ◌∙◌, subst, ⊎_elim}
+use Rattle.std.proofs.Common.{◌≡◌, ◌++◌, true, false, length, sym, ap, ◌∙◌, subst, ⊎_elim}
 use Rattle.std.specs.Prelude.{codes}
 use Rattle.std.specs.List.{flat_map}
 use Rattle.std.proofs.lemmas.Bool.{cases_Bool}
 use Rattle.std.proofs.lemmas.List.{append_assoc}
 use Rattle.bit_matrix.specs.Matrices.{IsSquare}
-use Rattle.certificate_lines.specs.Relations.{row_text, is_identity, identity_line, rows_line}
+use Rattle.certificate_lines.specs.Relations.{row_text, is_identity, rows_line}
 use Rattle.certificate_lines.proofs.Identity.{identity_test, identity_tested}
 use Rattle.certificate_lines.proofs.Judging.{identity_text, rows_text}
 use Rattle.certificate_lines.proofs.relations.put_relation.Goals as goal
@@ -25,7 +25,7 @@ returns c =
     let word = c.args.word.now in
     let old = c.args.out.now.items in
     let other : is_identity m ≡ false = ⊎_elim
-        (λ (t : is_identity m ≡ true). let q : false ≡ true = sym c.if-is_identity.false ∙ c.is_identity.ensures.1 (identity_test m t) in absurd cc)
-        (λ (f : is_identity m ≡ false). f) (cases_Bool (is_identity m)) in
+    (λ (t : is_identity m ≡ true). let q : false ≡ true = sym c.if-is_identity.false ∙ c.is_identity.ensures.1 (identity_test m t) in absurd cc)
+    (λ (f : is_identity m ≡ false). f) (cases_Bool (is_identity m)) in
     c.in_ok-put_rows.ensures ∙ ap (λ xs. xs ++ flat_map row_text m) (c.in_ok-extend_from_slice-3.ensures.items ∙ ap (λ xs. xs ++ codes " rows\n") c.in_ok-extend_from_slice.ensures.items ∙ append_assoc old word (codes " rows\n"))
     ∙ append_assoc old (rows_line word) (flat_map row_text m) ∙ ap (λ xs. old ++ xs) (sym (rows_text word m other))

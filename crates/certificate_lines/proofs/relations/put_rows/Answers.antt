@@ -1,4 +1,4 @@
-use Rattle.std.proofs.Common.{◌≡◌, ◌<◌, ◌++◌, ◌∷◌, [], List, length, take, get_or, sym, ap, ◌∙◌, subst, arith}
+use Rattle.std.proofs.Common.{◌≡◌, ◌++◌, ◌∷◌, [], take, get_or, sym, ap, ◌∙◌, arith}
 use Rattle.std.specs.List.{flat_map}
 use Rattle.std.proofs.lemmas.Grind.{flat_map-append}
 use Rattle.std.proofs.lemmas.List.{append_assoc, append-nil, take_more}
@@ -19,4 +19,4 @@ loop-i-preserved c =
     let last : flat_map row_text (row ∷ []) ≡ row_text row = append-nil (row_text row) in
     c.in_ok-put_row.ensures ∙ ap (λ xs. xs ++ row_text row) c.loop-i.invariant ∙ append_assoc old (flat_map row_text (take i m)) (row_text row)
     ∙ ap (λ xs. old ++ xs) (ap (λ xs. flat_map row_text (take i m) ++ xs) (sym last) ∙ sym (flat_map-append row_text (take i m) (row ∷ []))
-      ∙ ap (λ x. flat_map row_text (take i m ++ x ∷ [])) (sym here) ∙ ap (flat_map row_text) (sym more))
+    ∙ ap (λ x. flat_map row_text (take i m ++ x ∷ [])) (sym here) ∙ ap (flat_map row_text) (sym more))

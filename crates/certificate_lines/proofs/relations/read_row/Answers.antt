@@ -1,4 +1,4 @@
-use Rattle.std.proofs.Common.{◌≡◌, ◌<◌, ◌≤◌, true, false, [], length, sym, ap, ◌∙◌, arith}
+use Rattle.std.proofs.Common.{◌≡◌, true, false, [], length, sym, ap, ◌∙◌, arith}
 use Rattle.certificate_lines.proofs.Judging.{row_from_length, row_right, row_wrong}
 use Rattle.certificate_lines.proofs.relations.read_row.Goals as goal
 

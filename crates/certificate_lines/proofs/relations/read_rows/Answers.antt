@@ -1,12 +1,12 @@
-use Rattle.std.proofs.Common.{◌≡◌, ◌<◌, ◌++◌, ◌∷◌, ◌+◌, ◌-◌, [], List, Err, Vec, Global, length, take, drop, ap, ◌∙◌, subst, sym}
+use Rattle.std.proofs.Common.{◌≡◌, ◌+◌, ◌-◌, List, Err, Vec, Global, length, take, drop, ◌∙◌, subst, sym}
 use Rattle.std.specs.Prelude.{All}
-use Rattle.std.proofs.lemmas.List.Elements.{All-nil, All-push}
+use Rattle.std.proofs.lemmas.List.Elements.{All-push}
 use Rattle.tree_definitions.specs.Relation.{Row}
 use Rattle.witness_trees.specs.Answers.{Answers}
 use Rattle.certificate_lines.specs.Telling.{piece_of}
 use Rattle.certificate_lines.specs.Relations.{row_in}
 use Rattle.certificate_lines.proofs.Judging.{row_alone, row_in_long}
-use Rattle.certificate_lines.proofs.Reading.{IsReadTo, read_none, read_cut, read_more, read_fails, read_all}
+use Rattle.certificate_lines.proofs.Reading.{read_cut, read_more, read_fails, read_all}
 use Rattle.certificate_lines.proofs.relations.read_rows.Goals as goal
 
 pub returns-in_default-mark_place-clause-judged : goal.returns-in_default-mark_place-clause-judged

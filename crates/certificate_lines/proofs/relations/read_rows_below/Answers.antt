@@ -1,4 +1,4 @@
-use Rattle.std.proofs.Common.{◌≡◌, ◌≤◌, true, false, length, sym, ap, ◌∙◌, subst, ⊎_elim}
+use Rattle.std.proofs.Common.{◌≡◌, true, false, length, sym, ap, ◌∙◌, subst, ⊎_elim}
 use Rattle.std.proofs.lemmas.Bool.{cases_Bool}
 use Rattle.witness_trees.specs.Judged.{then_judged}
 use Rattle.bit_matrix.specs.Matrices.{IsSquare}
@@ -25,6 +25,6 @@ returns-else-is_identity-clause-judged c =
     let head = c.args.head in
     let after = c.in-Ok.after in
     let other : is_identity m ≡ false = ⊎_elim
-        (λ (t : is_identity m ≡ true). let q : false ≡ true = sym c.if-is_identity.false ∙ c.is_identity.ensures.1 (identity_test m t) in absurd cc)
-        (λ (f : is_identity m ≡ false). f) (cases_Bool (is_identity m)) in
+    (λ (t : is_identity m ≡ true). let q : false ≡ true = sym c.if-is_identity.false ∙ c.is_identity.ensures.1 (identity_test m t) in absurd cc)
+    (λ (f : is_identity m ≡ false). f) (cases_Bool (is_identity m)) in
     ap (λ v. then_judged v (but_identity head)) c.in-Ok.ensures.judged ∙ ap (λ (x : Matrix). but_identity head (record { value = x; after = after })) (sym c.of_rows-relation.ensures) ∙ but_right head after m other

@@ -1,7 +1,7 @@
-use Rattle.std.proofs.Common.{◌≡◌, ◌<◌, List, [], ◌∷◌, ◌++◌, map, length, take, get_or, refl, sym, ap, ◌∙◌, subst, arith}
+use Rattle.std.proofs.Common.{◌≡◌, ◌<◌, [], ◌∷◌, ◌++◌, map, length, take, get_or, refl, sym, ap, ◌∙◌, subst, arith}
 use Rattle.std.specs.List.{range_with_len}
 use Rattle.std.proofs.lemmas.List.{take_more, take_all}
-use Rattle.certificate_lines.specs.Relations.{row_digits, digit_at, digits_for}
+use Rattle.certificate_lines.specs.Relations.{digit_at, digits_for}
 use Rattle.certificate_lines.proofs.Digits.{digits_length, digit_read, one_more}
 use Rattle.certificate_lines.proofs.rows.spells.Goals as goal
 

@@ -1,4 +1,4 @@
-use Rattle.std.proofs.Common.{Contains, ap, subst, ◌∙◌, length, arith, length-take}
+use Rattle.std.proofs.Common.{Contains, ap, subst, length, arith, length-take}
 use Rattle.certificate_lines.proofs.Named.{not_before}
 use Rattle.certificate_lines.proofs.names.StatePlaces.of.Goals as goal
 
