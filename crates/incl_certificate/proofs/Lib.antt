@@ -5,3 +5,5 @@ pub mod Within
 pub mod Lines
 pub mod ReadBack
 pub mod Merging
+pub mod Failing
+pub mod Included

@@ -1,10 +1,35 @@
 -- Certificates, and which of them can be written for two automata.
-use Rattle.std.specs.Prelude.{◌≡◌, ◌<◌, length}
+use Rattle.std.specs.Prelude.{◌≡◌, ◌<◌, ◌≤◌, ◌+◌, ℕ, List, All, length}
 use Rattle.tree_definitions.specs.Automaton.{Automaton}
+use Rattle.tree_definitions.specs.Cover.{Pair, FitsPair}
 use Rattle.tree_definitions.specs.Joint.{joint_symbols}
+use Rattle.tree_definitions.specs.Relation.{Matrix, IsSquare}
+use Rattle.listed_pairs.specs.Order.{AreRising}
 use Rattle.witness_trees.specs.Nodes.{IsNodeList, NodeList}
 use Rattle.incl_certificate.specs.declared.certificate.Certificate.{Certificate}
-use Rattle.incl_certificate.specs.declared.certificate.Certificate.TheVariants.{Tree}
+use Rattle.incl_certificate.specs.declared.certificate.Certificate.TheVariants.{Up, Down, Tree}
+
+-- a relation between n states, of which there are at most 20,000
+pub record FitsRelation (n : ℕ) (m : Matrix) : Type 0 where
+  pub square : IsSquare n m
+  pub few : n ≤ 20000
+
+-- pairs of a state of A and a set of states of B, which rise
+pub record FitPairs (A B : Automaton) (pairs : List Pair) : Type 0 where
+  pub each : All (FitsPair A B) pairs
+  pub rising : AreRising pairs
+  pub few : length pairs < 4294967295
+
+-- a relation of A, one of B, and pairs
+pub record FitsUp (A B : Automaton) (RA RB : Matrix) (X : List Pair) : Type 0 where
+  pub left : FitsRelation (length A.states) RA
+  pub right : FitsRelation (length B.states) RB
+  pub pairs : FitPairs A B X
+
+-- a relation on the states of A and then those of B, and pairs
+pub record FitsDown (A B : Automaton) (R : Matrix) (X : List Pair) : Type 0 where
+  pub both : FitsRelation (length A.states + length B.states) R
+  pub pairs : FitPairs A B X
 
 -- the nodes are over the symbols of A and then those of B that A lacks, and there is one at least
 pub record FitsTree (A B : Automaton) (nodes : NodeList) : Type 0 where
@@ -14,4 +39,6 @@ pub record FitsTree (A B : Automaton) (nodes : NodeList) : Type 0 where
 
 -- the certificate can be written for A and B
 abbrev pub Fits : Automaton → Automaton → Certificate → Type 0
+Fits A B (Up left right pairs) = FitsUp A B left right pairs.items
+Fits A B (Down both pairs) = FitsDown A B both pairs.items
 Fits A B (Tree nodes) = FitsTree A B nodes

@@ -1,34 +1,107 @@
 -- What the checker answers.
-use Rattle.std.specs.Prelude.{ℕ, length}
-use Rattle.tree_definitions.specs.Automaton.{Automaton}
+use Rattle.std.specs.Prelude.{◌≡◌, ℕ, List, [], ◌∷◌, Contains, length}
+use Rattle.tree_definitions.specs.Tree.{Symbol}
+use Rattle.tree_definitions.specs.Automaton.{Automaton, HasRule, IsFinal}
+use Rattle.tree_definitions.specs.Canonical.{canon}
+use Rattle.tree_definitions.specs.Cover.{Pair, Post, Rejects}
+use Rattle.tree_definitions.specs.DownCert.{DownCert, IsCoveredDown}
+use Rattle.tree_definitions.specs.Joint.{JointRule}
+use Rattle.tree_definitions.specs.Language.{Included as IsIncluded}
+use Rattle.tree_definitions.specs.Relation.{Matrix, Row, Holds as Relates}
+use Rattle.tree_definitions.specs.Simulation.{IsUp, IsDown}
+use Rattle.tree_definitions.specs.UpCert.{UpCert, AreListed, IsCoveredUp as IsStepCovered}
 use Rattle.tree_definitions.specs.Witness.{NoCert}
+use Rattle.listed_pairs.specs.Places.{IsFirst, IsNth}
+use Rattle.up_conditions.specs.Covering.{IsUncoveredLeaf, IsUncoveredStep}
+use Rattle.up_conditions.specs.Listed.{IsCovered as IsCoveredUp}
+use Rattle.down_conditions.specs.Covering.{IsCovered as IsCoveredPair}
+use Rattle.down_conditions.specs.Refuting.{IsRefuted, IsSplitCovered}
 use Rattle.witness_trees.specs.Nodes.{NodeList}
 use Rattle.incl_certificate.specs.Trees.{IsAccepted}
 use Rattle.incl_certificate.specs.declared.certificate.Certificate.{Certificate}
-use Rattle.incl_certificate.specs.declared.certificate.Certificate.TheVariants.{Tree}
+use Rattle.incl_certificate.specs.declared.certificate.Certificate.TheVariants.{Up, Down, Tree}
 use Rattle.incl_certificate.specs.declared.checking.Verdict.{Verdict}
-use Rattle.incl_certificate.specs.declared.checking.Verdict.TheVariants.{NotIncluded}
+use Rattle.incl_certificate.specs.declared.checking.Verdict.TheVariants.{Included, NotIncluded}
 use Rattle.incl_certificate.specs.declared.checking.CheckError.{CheckError}
 use Rattle.incl_certificate.specs.declared.checking.CheckError.TheVariants.{Fails, Memory}
 
--- the conditions of a tree hold, and this is what it shows
-abbrev pub HoldsTree : Automaton → Automaton → NodeList → Verdict → Type 0
-HoldsTree A B nodes NotIncluded = NoCert A B nodes.symbols nodes.rows
+-- where the verdict is `Included`, each tree that A accepts is accepted by B
+abbrev pub MeansInclusion : Automaton → Automaton → Verdict → Type 0
+MeansInclusion A B verdict = verdict ≡ Included → IsIncluded A B
 
 -- all conditions of the certificate hold, and this is what it shows
 abbrev pub Holds : Automaton → Automaton → Certificate → Verdict → Type 0
-Holds A B (Tree nodes) verdict = HoldsTree A B nodes verdict
+Holds A B (Up left right pairs) verdict = (verdict ≡ Included) × UpCert A B (Relates left) (Relates right) pairs.items
+Holds A B (Down both pairs) verdict = (verdict ≡ Included) × DownCert A B (Relates both) pairs.items
+Holds A B (Tree nodes) verdict = (verdict ≡ NotIncluded) × NoCert A B nodes.symbols nodes.rows
+
+-- the relations are upward simulations
+pub record AreUp (A B : Automaton) (RA RB : Matrix) : Type 0 where
+  pub left : IsUp A (Relates RA)
+  pub right : IsUp B (Relates RB)
+
+-- no listed pair rejects
+abbrev pub NoneRejects : Automaton → Automaton → List Pair → Type 0
+NoneRejects A B pairs = (pair : Pair) → Contains pairs pair → Rejects A B pair → ⊥
+
+-- the step of each rule of A without children is covered by a listed pair
+abbrev pub AreLeavesCovered : Automaton → Automaton → Matrix → Matrix → List Pair → Type 0
+AreLeavesCovered A B left right pairs =
+    (a : Symbol) (p : ℕ) → HasRule A a [] p → IsStepCovered (Relates left) (Relates right) pairs p (Post B a [])
+
+-- so is each step of each other rule from listed pairs for its children
+abbrev pub AreStepsCovered : Automaton → Automaton → Matrix → Matrix → List Pair → Type 0
+AreStepsCovered A B left right pairs =
+    (a : Symbol) (q : ℕ) (qs : List ℕ) (p : ℕ) → HasRule A a (q ∷ qs) p
+    → (sets : List Row) → AreListed pairs (q ∷ qs) sets → IsStepCovered (Relates left) (Relates right) pairs p (Post B a sets)
+
+-- the condition with this number is the least of an upward certificate that fails, at this place. Rules are those of A's canonical form.
+-- 1: both relations are upward simulations; 2: no pair rejects; 3: the step of each rule without children is covered; 4: so is each step of each other rule; 5: no pair is covered by another one
+pub data FailsUp (A B : Automaton) (left right : Matrix) (pairs : List Pair) : ℕ → ℕ → Type 0 where
+  LeftFails : ¬ IsUp A (Relates left) → FailsUp A B left right pairs 1 1
+  RightFails : IsUp A (Relates left) → ¬ IsUp B (Relates right) → FailsUp A B left right pairs 1 2
+  Rejecting : (n : ℕ) → AreUp A B left right → IsFirst (IsNth pairs (Rejects A B)) n → FailsUp A B left right pairs 2 n
+  LeafFails : (n : ℕ) → AreUp A B left right → NoneRejects A B pairs
+      → IsFirst (IsNth (canon A).rules (IsUncoveredLeaf A.symbols B (Relates left) (Relates right) pairs)) n → FailsUp A B left right pairs 3 n
+  StepFails : (n : ℕ) → AreUp A B left right → NoneRejects A B pairs → AreLeavesCovered A B left right pairs
+      → IsFirst (IsNth (canon A).rules (IsUncoveredStep A.symbols B (Relates left) (Relates right) pairs)) n → FailsUp A B left right pairs 4 n
+  CoveredUp : (n : ℕ) → AreUp A B left right → NoneRejects A B pairs → AreLeavesCovered A B left right pairs → AreStepsCovered A B left right pairs
+      → IsFirst (IsNth pairs (IsCoveredUp (Relates left) (Relates right) pairs)) n → FailsUp A B left right pairs 5 n
+
+-- the final state of A is covered with the final states of B
+abbrev pub IsFinalCovered : Automaton → Automaton → Matrix → List Pair → ℕ → Type 0
+IsFinalCovered A B both pairs f = IsCoveredDown A (Relates both) pairs f (IsFinal B)
+
+abbrev pub AreFinalsCovered : Automaton → Automaton → Matrix → List Pair → Type 0
+AreFinalsCovered A B both pairs = (f : ℕ) → IsFinal A f → IsFinalCovered A B both pairs f
+
+-- whatever the choice of places, each listed pair has a covered child
+abbrev pub AreChoicesCovered : Automaton → Automaton → Matrix → List Pair → Type 0
+AreChoicesCovered A B both pairs = (pair : Pair) → Contains pairs pair → IsSplitCovered A B (Relates both) pairs pair
+
+-- the same for a downward certificate. Final states are those of A in order of place.
+-- 1: the relation is a downward simulation of both together; 2: each final state is covered with those of B; 3: no choice of places refutes a pair; 5: no pair is covered by another one
+pub data FailsDown (A B : Automaton) (both : Matrix) (pairs : List Pair) : ℕ → ℕ → Type 0 where
+  BothFails : ¬ IsDown (JointRule A B) (Relates both) → FailsDown A B both pairs 1 1
+  FinalFails : (n : ℕ) → IsDown (JointRule A B) (Relates both)
+      → IsFirst (IsNth (canon A).finals (λ f. ¬ IsFinalCovered A B both pairs f)) n → FailsDown A B both pairs 2 n
+  ChoiceFails : (n : ℕ) → IsDown (JointRule A B) (Relates both) → AreFinalsCovered A B both pairs
+      → IsFirst (IsNth pairs (IsRefuted A B (Relates both) pairs)) n → FailsDown A B both pairs 3 n
+  CoveredDown : (n : ℕ) → IsDown (JointRule A B) (Relates both) → AreFinalsCovered A B both pairs → AreChoicesCovered A B both pairs
+      → IsFirst (IsNth pairs (IsCoveredPair A (Relates both) pairs)) n → FailsDown A B both pairs 5 n
 
 -- condition 6: the tree is accepted by A. Condition 7: it isn't accepted by B. Both stand at the number of nodes
 pub data FailsTree (A B : Automaton) (nodes : NodeList) : ℕ → ℕ → Type 0 where
   Refused : ¬ IsAccepted A nodes → FailsTree A B nodes 6 (length nodes.rows)
   Accepted : IsAccepted A nodes → IsAccepted B nodes → FailsTree A B nodes 7 (length nodes.rows)
 
--- the condition of the tree is the least that fails, at this place
-abbrev pub FailsTreeFirst : Automaton → Automaton → NodeList → CheckError → Type 0
-FailsTreeFirst A B nodes (Fails condition place) = FailsTree A B nodes condition place
-FailsTreeFirst A B nodes Memory = Unit {0}
+-- the condition of the certificate with this number is the least that fails, at this place
+abbrev pub FailsAt : Automaton → Automaton → Certificate → ℕ → ℕ → Type 0
+FailsAt A B (Up left right pairs) condition place = FailsUp A B left right pairs.items condition place
+FailsAt A B (Down both pairs) condition place = FailsDown A B both pairs.items condition place
+FailsAt A B (Tree nodes) condition place = FailsTree A B nodes condition place
 
--- the condition is the least that fails, at this place
+-- what is answered where a condition fails, unless memory ran out
 abbrev pub FailsFirst : Automaton → Automaton → Certificate → CheckError → Type 0
-FailsFirst A B (Tree nodes) error = FailsTreeFirst A B nodes error
+FailsFirst A B c (Fails condition place) = FailsAt A B c condition place
+FailsFirst A B c Memory = Unit {0}

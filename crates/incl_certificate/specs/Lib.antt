@@ -3,3 +3,4 @@ pub mod Trees
 pub mod Certificates
 pub mod Text
 pub mod Checked
+pub mod Telling

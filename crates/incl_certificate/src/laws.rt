@@ -12,5 +12,5 @@ ghost use Rattle.incl_certificate.specs.declared.certificate.Certificate.{Certif
 /// The text of a certificate that fits is judged as that certificate.
 pub fn printed_certificates_are_read_back()
     ensures { (A B : Automaton) (c : Certificate) → IsListed A → IsListed B → Fits A B c
-        → Reads A B (Ok c) (judged_certificate A B (certificate_text c)) }
+        → Reads A B (Ok c) (judged_certificate A B (certificate_text A B c)) }
 {}

@@ -4,12 +4,17 @@
 
 mod certificate;
 mod checking;
+mod downward;
 mod joint;
 mod laws;
 mod printing;
+mod inclusion_reading;
+mod tree_reading;
 mod reading;
 #[cfg(test)]
 mod tests;
+mod tree;
+mod upward;
 
 pub use certificate::{Certificate, fits};
 pub use checking::{CheckError, Verdict, check};

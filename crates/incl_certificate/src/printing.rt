@@ -1,12 +1,17 @@
 //! The text of a certificate.
 
-ghost use Rattle.std.specs.Prelude.{◌≡◌, IfOk};
+ghost use Rattle.std.specs.Prelude.{◌≡◌, ◌<◌, All, IfOk, length};
+ghost use Rattle.tree_definitions.specs.Cover.{FitsPair};
 ghost use Rattle.incl_certificate.specs.Certificates.{Fits};
-ghost use Rattle.incl_certificate.specs.Text.{answer_line, certificate_text, kind_line};
+ghost use Rattle.incl_certificate.specs.Text.{answer_line, certificate_text, down_text, kind_line, tree_text, up_text};
 
 use crate::certificate::Certificate;
+use bit_matrix::Matrix;
+use certificate_lines::{put_pairs, put_relation};
+use listed_pairs::Pair;
 use std::alloc::{AllocError, Global};
 use ta_model::Listed;
+use witness_trees::Nodes;
 
 #[tactic(auto, unfolding(crate::specs::Text::answer_line))]
 pub fn answer() -> &'static [u8]
@@ -22,19 +27,66 @@ pub fn kind() -> &'static [u8]
     b"certificate 1 tree\n".as_slice()
 }
 
+#[tactic(auto, unfolding(crate::specs::Text::up_text))]
+fn print_up(
+    alloc: Global,
+    a: &Listed,
+    b: &Listed,
+    left: &Matrix,
+    right: &Matrix,
+    pairs: &[Pair],
+) -> Result<Vec<u8>, AllocError>
+    requires { All (FitsPair a.now b.now) pairs.now }
+    ensures { IfOk result (λ text. text.items ≡ up_text a.now b.now left.now right.now pairs.now) }
+{
+    let mut text = Vec::new(alloc);
+    text.extend_from_slice(b"included\n")?;
+    text.extend_from_slice(b"certificate 1 up\n")?;
+    put_relation(&mut text, b"left", left)?;
+    put_relation(&mut text, b"right", right)?;
+    put_pairs(&mut text, a, b, pairs)?;
+    Ok(text)
+}
+
+#[tactic(auto, unfolding(crate::specs::Text::down_text))]
+fn print_down(
+    alloc: Global,
+    a: &Listed,
+    b: &Listed,
+    both: &Matrix,
+    pairs: &[Pair],
+) -> Result<Vec<u8>, AllocError>
+    requires { All (FitsPair a.now b.now) pairs.now }
+    ensures { IfOk result (λ text. text.items ≡ down_text a.now b.now both.now pairs.now) }
+{
+    let mut text = Vec::new(alloc);
+    text.extend_from_slice(b"included\n")?;
+    text.extend_from_slice(b"certificate 1 down\n")?;
+    put_relation(&mut text, b"both", both)?;
+    put_pairs(&mut text, a, b, pairs)?;
+    Ok(text)
+}
+
+fn print_tree(alloc: Global, nodes: &Nodes) -> Result<Vec<u8>, AllocError>
+    requires { 0 < length nodes.now.rows }
+    ensures { IfOk result (λ text. text.items ≡ tree_text nodes.now) }
+{
+    let lines = witness_trees::print(alloc, nodes)?;
+    let mut text = Vec::with_capacity(alloc, lines.len())?;
+    text.extend_from_slice(answer())?;
+    text.extend_from_slice(kind())?;
+    text.extend_from_slice(&lines)?;
+    Ok(text)
+}
+
 /// The text of a certificate that fits.
 pub fn print(alloc: Global, a: &Listed, b: &Listed, c: &Certificate) -> Result<Vec<u8>, AllocError>
     requires { Fits a.now b.now c.now }
-    ensures { IfOk result (λ text. text.items ≡ certificate_text c.now) }
+    ensures { IfOk result (λ text. text.items ≡ certificate_text a.now b.now c.now) }
 {
     match c {
-        Certificate::Tree { nodes } => {
-            let lines = witness_trees::print(alloc, nodes)?;
-            let mut text = Vec::with_capacity(alloc, lines.len())?;
-            text.extend_from_slice(answer())?;
-            text.extend_from_slice(kind())?;
-            text.extend_from_slice(&lines)?;
-            Ok(text)
-        }
+        Certificate::Up { left, right, pairs } => print_up(alloc, a, b, left, right, pairs),
+        Certificate::Down { both, pairs } => print_down(alloc, a, b, both, pairs),
+        Certificate::Tree { nodes } => print_tree(alloc, nodes),
     }
 }

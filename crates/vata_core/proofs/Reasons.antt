@@ -4,7 +4,7 @@ use Rattle.std.specs.Prelude.{unwrap_or}
 use Rattle.std.specs.declared.option.Option.{Option}
 use Rattle.vata_outside.specs.Outside.{File, IsMissing, Rose}
 use Rattle.tree_definitions.specs.Automaton.{Automaton}
-use Rattle.tree_definitions.specs.Witness.{NodeRow}
+use Rattle.incl_certificate.specs.Text.{Said}
 use Rattle.timbuk_definitions.specs.Place.{Limit}
 use Rattle.timbuk_text.specs.Taking.{limit_of}
 use Rattle.witness_trees.specs.Judged.{Verdict, Is, BadAt, UnknownAt}
@@ -59,7 +59,7 @@ module _ (fs : List File) (r : CheckRequest) where
   lost : (before now : ℕ) → ¬ Rose before now → (place : ℕ) → FailsToRead (Some fs) (all_of r) before now place → Comes fs r place (Lost fs r place)
   lost before now calm place h = comes_to_all fs r place h.name (Lost fs r place) h.first (elim h.cause [ inl rose ↦ absurd (calm rose) | inr missing ↦ missing ])
 
-  unread : (verdict : Verdict (List NodeRow)) → IsNoCertificate (Some fs) r verdict → Comes fs r 2 (Whole fs r 2)
+  unread : (verdict : Verdict Said) → IsNoCertificate (Some fs) r verdict → Comes fs r 2 (Whole fs r 2)
   unread verdict h = read_whole fs r h.first h.second (IsReadAs h.first h.second verdict) (λ bytes read. read.short) h.spelled h.read
 
   good : (A B : Automaton) (c : Certificate) → AreSpelled (Some fs) (automata_of r) (A ∷ B ∷ []) → Told (Some fs) r.certificate (IsCertificateOf A B c) → Comes fs r 2 (Whole fs r 2)
@@ -108,7 +108,7 @@ module _ (fs : List File) (r : CheckRequest) where
   beyond_or_bad line place (TooLong p h) l = long_or_bad fs r p place (long p h) l
   beyond_or_bad line place (Over p what at h) l = over_or_bad fs r p place (over p what at h) l
 
-  beyond_or_unread : (line : List ℕ) (verdict : Verdict (List NodeRow)) → IsBeyond (Some fs) r line → IsNoCertificate (Some fs) r verdict → ⊥
+  beyond_or_unread : (line : List ℕ) (verdict : Verdict Said) → IsBeyond (Some fs) r line → IsNoCertificate (Some fs) r verdict → ⊥
   beyond_or_unread line verdict (TooLong p h) l = long_or_whole fs r p 2 (long p h) (unread verdict l)
   beyond_or_unread line verdict (Over p what at h) l = over_or_whole fs r p 2 (over p what at h) (unread verdict l)
 

@@ -7,16 +7,14 @@ use Rattle.tree_definitions.specs.Name.{IsName}
 use Rattle.std.specs.declared.option.Option.{Option}
 use Rattle.vata_outside.specs.Outside.{File, IsMissing, bytes_of}
 use Rattle.tree_definitions.specs.Automaton.{Automaton}
-use Rattle.tree_definitions.specs.Witness.{NodeRow}
 use Rattle.ta_model.specs.Listing.{IsListed}
 use Rattle.witness_trees.specs.Judged.{Verdict, Is, BadAt, UnknownAt}
 use Rattle.timbuk_definitions.specs.Place.{Limit}
 use Rattle.timbuk_definitions.proofs.Spelled.{one_spelled}
 use Rattle.timbuk_definitions.proofs.BadPlaces.{no_file_with_bad_place}
 use Rattle.timbuk_definitions.proofs.Unlimited.{spelled_formed, spelled_named, spelled_small}
-use Rattle.incl_certificate.specs.Text.{judged_certificate, certificate_text}
+use Rattle.incl_certificate.specs.Text.{Said, said_of, judged_certificate, certificate_text}
 use Rattle.incl_certificate.specs.declared.certificate.Certificate.{Certificate}
-use Rattle.incl_certificate.specs.declared.certificate.Certificate.TheVariants.{Tree}
 use Rattle.incl_certificate.proofs.ReadBack.{printed_back}
 use Rattle.vata_core.specs.CheckRequest.{CheckRequest, all_of, automata_of}
 use Rattle.vata_core.specs.Files.{AreSpelled, ComesTo, IsBadAt, IsFileOf, IsOverAt, IsRefused, IsSpelled, IsTooLong, Told}
@@ -205,7 +203,7 @@ module _ (fs : List File) (r : CheckRequest) where
   read_whole A B P short s t = ((A, s.0), (B, s.1.0), (refl, (t.0, t.1, short t.0 t.2)))
 
   -- two readings of one certificate come to the same end
-  pub same_end : (A B C D : Automaton) (P Q : Verdict (List NodeRow)) → AreSpelled (Some fs) (automata_of r) (A ∷ B ∷ []) → AreSpelled (Some fs) (automata_of r) (C ∷ D ∷ [])
+  pub same_end : (A B C D : Automaton) (P Q : Verdict Said) → AreSpelled (Some fs) (automata_of r) (A ∷ B ∷ []) → AreSpelled (Some fs) (automata_of r) (C ∷ D ∷ [])
       → Told (Some fs) r.certificate (IsReadAs A B P) → Told (Some fs) r.certificate (IsReadAs C D Q) → P ≡ Q
   same_end A B C D P Q s t p q =
       let first = told_both r.first (IsFileOf A) (IsFileOf C) s.0 t.0 in
@@ -218,7 +216,7 @@ module _ (fs : List File) (r : CheckRequest) where
 
   -- the text of a certificate is read to its end
   pub read_as : (A B : Automaton) (c : Certificate) → AreSpelled (Some fs) (automata_of r) (A ∷ B ∷ []) → Told (Some fs) r.certificate (IsCertificateOf A B c)
-      → (rows : List NodeRow) × Told (Some fs) r.certificate (IsReadAs A B (Is rows))
-  read_as A B (Tree nodes) s t =
-      let back = printed_back A B (Tree nodes) (listed s.0.0 A s.0.2) (listed s.1.0.0 B s.1.0.2) t.2.fits in
-      (nodes.rows, (t.0, t.1, record { short = t.2.short; judged = ap (judged_certificate A B) t.2.text ∙ back.0 }))
+      → (said : Said) × Told (Some fs) r.certificate (IsReadAs A B (Is said))
+  read_as A B c s t =
+      let back = printed_back A B c (listed s.0.0 A s.0.2) (listed s.1.0.0 B s.1.0.2) t.2.fits in
+      (said_of c, (t.0, t.1, record { short = t.2.short; judged = ap (judged_certificate A B) t.2.text ∙ back }))

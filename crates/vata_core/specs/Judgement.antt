@@ -10,7 +10,7 @@ use Rattle.incl_certificate.specs.Checked.{FailsFirst, Holds}
 use Rattle.incl_certificate.specs.Text.{certificate_text}
 use Rattle.incl_certificate.specs.declared.certificate.Certificate.{Certificate}
 use Rattle.incl_certificate.specs.declared.checking.Verdict.{Verdict}
-use Rattle.incl_certificate.specs.declared.checking.Verdict.TheVariants.{NotIncluded}
+use Rattle.incl_certificate.specs.declared.checking.Verdict.TheVariants.{Included, NotIncluded}
 use Rattle.incl_certificate.specs.declared.checking.CheckError.TheVariants.{Fails}
 use Rattle.vata_core.specs.CheckRequest.{CheckRequest, automata_of}
 use Rattle.vata_core.specs.Files.{AreSpelled, Told}
@@ -23,7 +23,7 @@ use Rattle.vata_core.specs.declared.status.Status.TheVariants as status
 pub record IsCertificateOf (A B : Automaton) (c : Certificate) (bytes : List ℕ) : Type 0 where
   pub short : length bytes ≤ 134217728
   pub fits : Fits A B c
-  pub text : bytes ≡ certificate_text c
+  pub text : bytes ≡ certificate_text A B c
 
 -- accepted: all conditions hold, and this is what the certificate shows. Refused: the least condition that fails, and where
 abbrev pub IsJudgement : Automaton → Automaton → Certificate → Judgement → Type 0
@@ -31,6 +31,7 @@ IsJudgement A B c (Accepted verdict) = Holds A B c verdict
 IsJudgement A B c (Refused condition place) = FailsFirst A B c (Fails condition place)
 
 unfoldable pub accepted_line : Verdict → List ℕ
+accepted_line Included = codes "accepted: included\n"
 accepted_line NotIncluded = codes "accepted: not included\n"
 
 unfoldable pub refused_line : ℕ → ℕ → List ℕ

@@ -3,9 +3,8 @@ use Rattle.std.specs.Prelude.{◌≡◌, ℕ, ◌<◌, ◌≤◌, List, [], ◌�
 use Rattle.std.specs.declared.option.Option.{Option}
 use Rattle.vata_outside.specs.Outside.{File}
 use Rattle.tree_definitions.specs.Automaton.{Automaton}
-use Rattle.tree_definitions.specs.Witness.{NodeRow}
 use Rattle.witness_trees.specs.Judged.{Verdict, BadAt, UnknownAt}
-use Rattle.incl_certificate.specs.Text.{judged_certificate}
+use Rattle.incl_certificate.specs.Text.{Said, judged_certificate}
 use Rattle.vata_core.specs.CheckRequest.{CheckRequest, all_of, automata_of}
 use Rattle.timbuk_definitions.specs.Place.{Limit}
 use Rattle.vata_core.specs.Files.{AreSpelled, IsBadAt, IsOverAt, IsRefused, Told}
@@ -19,12 +18,12 @@ abbrev pub IsTooLongAt : ℕ → List ℕ → Type 0
 IsTooLongAt place bytes = most_bytes place < length bytes
 
 -- reading the text for A and B comes to this end
-pub record IsReadAs (A B : Automaton) (verdict : Verdict (List NodeRow)) (text : List ℕ) : Type 0 where
+pub record IsReadAs (A B : Automaton) (verdict : Verdict Said) (text : List ℕ) : Type 0 where
   pub short : length text ≤ 134217728
   pub judged : judged_certificate A B text ≡ verdict
 
 -- the first two files spell automata, and reading the third for them comes to this end
-pub record IsNoCertificate (files : Option (List File)) (request : CheckRequest) (verdict : Verdict (List NodeRow)) : Type 0 where
+pub record IsNoCertificate (files : Option (List File)) (request : CheckRequest) (verdict : Verdict Said) : Type 0 where
   pub first : Automaton
   pub second : Automaton
   pub spelled : AreSpelled files (automata_of request) (first ∷ second ∷ [])

@@ -28,6 +28,7 @@ fn accepted(verdict: Verdict) -> &'static [u8]
     ensures { result.now ≡ accepted_line verdict }
 {
     match verdict {
+        Verdict::Included => b"accepted: included\n".as_slice(),
         Verdict::NotIncluded => b"accepted: not included\n".as_slice(),
     }
 }

@@ -7,7 +7,7 @@ use Rattle.incl_certificate.proofs.Within.{IsWithin, judged_within}
 use Rattle.std.specs.Prelude.{◌++◌}
 use Rattle.incl_certificate.specs.Text.{answer_line, kind_line}
 use Rattle.incl_certificate.proofs.ReadBack.{split_text}
-use Rattle.incl_certificate.proofs.reading.read.Goals as goal
+use Rattle.incl_certificate.proofs.tree_reading.read_tree.Goals as goal
 
 pub returns-in_default-clause-judged : goal.returns-in_default-clause-judged
 returns-in_default-clause-judged c = no_answer _ _ c.args.text.now c.answer.result.now c.answer.ensures c.in_default.ensures.cases
