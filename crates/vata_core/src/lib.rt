@@ -11,8 +11,6 @@ mod measure;
 mod running;
 mod status;
 mod telling;
-#[cfg(test)]
-mod tests;
 mod words;
 
 pub use checking::check_run;

@@ -1,0 +1,232 @@
+//! Evidence for inclusion, worked out by hand.
+
+use crate::running::{ended, over, run_check};
+
+const ALL: &[u8] =
+    b"Ops a:0 f:2\nAutomaton all\nStates q\nFinal States q\nTransitions\na -> q\nf(q,q) -> q\n";
+
+const ALL2: &[u8] =
+    b"Ops a:0 f:2\nAutomaton all\nStates q u\nFinal States q\nTransitions\na -> q\nf(q,q) -> q\n";
+
+const ONLY: &[u8] = b"Ops a:0\nAutomaton only\nStates r\nFinal States r\nTransitions\na -> r\n";
+
+/// Two states that the same leaf reaches, of which one is final.
+const FINAL: &[u8] = b"Ops a:0 Automaton fin States q r Final States r Transitions a -> q a -> r";
+
+#[test]
+fn upward_certificates_are_judged(rt: HostRuntime) {
+    let alloc = rt.alloc();
+    for (name, a, b, certificate, status, out, diag) in [
+        (
+            "one pair",
+            ONLY,
+            ALL,
+            b"included\ncertificate 1 up\nleft identity\nright identity\npairs 1\nr : q\n".as_slice(),
+            0,
+            b"accepted: included\n".as_slice(),
+            b"".as_slice(),
+        ),
+        (
+            "a relation that is none",
+            FINAL,
+            ALL,
+            b"included\ncertificate 1 up\nleft rows\n0\n8\nright identity\npairs 0\n".as_slice(),
+            1,
+            b"refused: condition 1 place 1\n".as_slice(),
+            b"".as_slice(),
+        ),
+        (
+            "a pair that rejects",
+            ALL,
+            ONLY,
+            b"included\ncertificate 1 up\nleft identity\nright identity\npairs 1\nq :\n".as_slice(),
+            1,
+            b"refused: condition 2 place 1\n".as_slice(),
+            b"".as_slice(),
+        ),
+        (
+            "no pair for the leaf",
+            ONLY,
+            ALL2,
+            b"included\ncertificate 1 up\nleft identity\nright identity\npairs 0\n".as_slice(),
+            1,
+            b"refused: condition 3 place 1\n".as_slice(),
+            b"".as_slice(),
+        ),
+        (
+            "a step to no state",
+            ALL,
+            ONLY,
+            b"included\ncertificate 1 up\nleft identity\nright identity\npairs 1\nq : r\n".as_slice(),
+            1,
+            b"refused: condition 4 place 2\n".as_slice(),
+            b"".as_slice(),
+        ),
+        (
+            "a pair that another one covers",
+            ONLY,
+            ALL2,
+            b"included\ncertificate 1 up\nleft identity\nright identity\npairs 2\nr : q\nr : q u\n".as_slice(),
+            1,
+            b"refused: condition 5 place 2\n".as_slice(),
+            b"".as_slice(),
+        ),
+        (
+            "no state of the second",
+            ONLY,
+            ALL,
+            b"included\ncertificate 1 up\nleft identity\nright identity\npairs 1\nr : z\n".as_slice(),
+            4,
+            b"".as_slice(),
+            b"name: file 3 at 67\n".as_slice(),
+        ),
+        (
+            "no state of the first",
+            ONLY,
+            ALL,
+            b"included\ncertificate 1 up\nleft identity\nright identity\npairs 1\nq : q\n".as_slice(),
+            4,
+            b"".as_slice(),
+            b"name: file 3 at 63\n".as_slice(),
+        ),
+        (
+            "a pair twice",
+            ONLY,
+            ALL,
+            b"included\ncertificate 1 up\nleft identity\nright identity\npairs 2\nr : q\nr : q\n".as_slice(),
+            4,
+            b"".as_slice(),
+            b"syntax: file 3 at 69\n".as_slice(),
+        ),
+        (
+            "no last line feed",
+            ONLY,
+            ALL,
+            b"included\ncertificate 1 up\nleft identity\nright identity\npairs 1\nr : q".as_slice(),
+            4,
+            b"".as_slice(),
+            b"syntax: file 3 at 63\n".as_slice(),
+        ),
+        (
+            "a byte more",
+            ONLY,
+            ALL,
+            b"included\ncertificate 1 up\nleft identity\nright identity\npairs 1\nr : q\n\n".as_slice(),
+            4,
+            b"".as_slice(),
+            b"syntax: file 3 at 69\n".as_slice(),
+        ),
+        (
+            "a leading zero",
+            ONLY,
+            ALL,
+            b"included\ncertificate 1 up\nleft identity\nright identity\npairs 01\nr : q\n".as_slice(),
+            4,
+            b"".as_slice(),
+            b"syntax: file 3 at 55\n".as_slice(),
+        ),
+        (
+            "rows that spell the identity",
+            ONLY,
+            ALL,
+            b"included\ncertificate 1 up\nleft rows\n8\nright identity\npairs 1\nr : q\n".as_slice(),
+            4,
+            b"".as_slice(),
+            b"syntax: file 3 at 26\n".as_slice(),
+        ),
+        (
+            "a kind of another answer",
+            ONLY,
+            ALL,
+            b"included\ncertificate 1 tree\n".as_slice(),
+            4,
+            b"".as_slice(),
+            b"syntax: file 3 at 9\n".as_slice(),
+        ),
+    ] {
+        let ran = run_check(&rt, alloc, "a b c", over(a, b, certificate));
+        ended(&rt, name, &ran, status, out, diag);
+    }
+}
+
+#[test]
+fn downward_certificates_are_judged(rt: HostRuntime) {
+    let alloc = rt.alloc();
+    for (name, a, b, certificate, status, out, diag) in [
+        (
+            "by the relation alone",
+            ONLY,
+            ALL,
+            b"included\ncertificate 1 down\nboth rows\nc\n4\npairs 0\n".as_slice(),
+            0,
+            b"accepted: included\n".as_slice(),
+            b"".as_slice(),
+        ),
+        (
+            "by a pair",
+            ONLY,
+            ALL,
+            b"included\ncertificate 1 down\nboth identity\npairs 1\nr : q\n".as_slice(),
+            0,
+            b"accepted: included\n".as_slice(),
+            b"".as_slice(),
+        ),
+        (
+            "a relation that is none",
+            ONLY,
+            ALL,
+            b"included\ncertificate 1 down\nboth rows\nc\nc\npairs 0\n".as_slice(),
+            1,
+            b"refused: condition 1 place 1\n".as_slice(),
+            b"".as_slice(),
+        ),
+        (
+            "no pair for the final state",
+            ONLY,
+            ALL,
+            b"included\ncertificate 1 down\nboth identity\npairs 0\n".as_slice(),
+            1,
+            b"refused: condition 2 place 1\n".as_slice(),
+            b"".as_slice(),
+        ),
+        (
+            "a choice that leaves all children uncovered",
+            ALL,
+            ONLY,
+            b"included\ncertificate 1 down\nboth identity\npairs 1\nq : r\n".as_slice(),
+            1,
+            b"refused: condition 3 place 1\n".as_slice(),
+            b"".as_slice(),
+        ),
+        (
+            "a pair that another one covers",
+            ONLY,
+            ALL2,
+            b"included\ncertificate 1 down\nboth identity\npairs 2\nr : q\nr : q u\n".as_slice(),
+            1,
+            b"refused: condition 5 place 2\n".as_slice(),
+            b"".as_slice(),
+        ),
+        (
+            "no state of the second",
+            ONLY,
+            ALL,
+            b"included\ncertificate 1 down\nboth identity\npairs 1\nr : r\n".as_slice(),
+            4,
+            b"".as_slice(),
+            b"name: file 3 at 54\n".as_slice(),
+        ),
+        (
+            "a relation of one automaton",
+            ONLY,
+            ALL,
+            b"included\ncertificate 1 down\nleft identity\npairs 0\n".as_slice(),
+            4,
+            b"".as_slice(),
+            b"syntax: file 3 at 28\n".as_slice(),
+        ),
+    ] {
+        let ran = run_check(&rt, alloc, "a b c", over(a, b, certificate));
+        ended(&rt, name, &ran, status, out, diag);
+    }
+}

@@ -1,0 +1,13 @@
+//! Whole runs of both programs, over files and sinks in memory.
+#![tactic(auto)]
+
+#[cfg(test)]
+mod answers;
+#[cfg(test)]
+mod certificates;
+#[cfg(test)]
+mod checks;
+#[cfg(test)]
+mod loads;
+#[cfg(test)]
+mod running;
