@@ -16,7 +16,7 @@ use Rattle.std.proofs.lemmas.Simd.{mask_l-lt, bit_mask_l, ones-mask_l}
 use Rattle.std.specs.List.{sum_by, count_by}
 use Rattle.std.specs.Int.RustNames.{count_ones}
 use Rattle.std.proofs.Common.{◌++◌, take, drop, length-append, length-drop, length-take-le, add-zero, zero-add}
-use Rattle.bit_rows.specs.Bits.{bit_of, bits, IsRow, is_within, is_apart}
+use Rattle.bit_rows.specs.Bits.{bit_of, bits, IsRow, is_within, is_apart, word_at, words_of}
 
 pub length-bits : (n : ℕ) (ws : List ℕ) → length (bits n ws) ≡ n
 unfolding bits
@@ -355,3 +355,33 @@ ones-bits n ws row =
 
 pub ones_le_len : (n : ℕ) (ws : List ℕ) → IsRow n ws → sum_by count_ones ws ≤ n
 ones_le_len n ws row = omega (arith, ones-bits n ws row, count_by-le-length (λ b. b) (bits n ws), length-bits n ws)
+
+-- ---- the words of a row, from its places
+pub words_of-bits : (n : ℕ) (ws : List ℕ) → IsRow n ws → words_of (bits n ws) ≡ ws
+unfolding words_of
+words_of-bits n ws row = ext_get_or 0 (words_of (bits n ws)) ws (long ∙ sym (row.room)) (λ k lt. each k lt)
+  where
+    count : ℕ
+    count = 4 * div_ceil (length (bits n ws)) 256
+
+    long : length (words_of (bits n ws)) ≡ 4 * div_ceil n 256
+    long = length-map-range_with_len (word_at (bits n ws)) 0 count ∙ ap (λ m. 4 * div_ceil m 256) (length-bits n ws)
+
+    same_bits : (k : ℕ) → map (λ j. get_or (bits n ws) (64 * k + j) false) (range_with_len 0 64) ≡ word_bits (get_or ws k 0)
+    same_bits k =
+        let left : length (map (λ j. get_or (bits n ws) (64 * k + j) false) (range_with_len 0 64)) ≡ 64 = length-map-range_with_len (λ j. get_or (bits n ws) (64 * k + j) false) 0 64 in
+        let right : length (word_bits (get_or ws k 0)) ≡ 64 = length-map-range_with_len (λ j. eqb (bit_at (get_or ws k 0) j) 1) 0 64 in
+        ext_get_or false (map (λ j. get_or (bits n ws) (64 * k + j) false) (range_with_len 0 64)) (word_bits (get_or ws k 0)) (left ∙ sym right)
+        (λ j lt.
+        let small : j < 64 = omega arith in
+        get_or-map-range_with_len (λ i. get_or (bits n ws) (64 * k + i) false) 0 64 j j false small (omega arith)
+        ∙ sym (bit_of_past n ws row (64 * k + j))
+        ∙ bit_of_word ws k j (64 * k + j) small (omega arith)
+        ∙ sym (get_or-map-range_with_len (λ i. eqb (bit_at (get_or ws k 0) i) 1) 0 64 j j false small (omega arith)))
+
+    each : (k : ℕ) → k < length (words_of (bits n ws)) → get_or (words_of (bits n ws)) k 0 ≡ get_or ws k 0
+    each k lt =
+        let small : k < count = omega (arith, lt, long, ap (λ m. 4 * div_ceil m 256) (length-bits n ws)) in
+        get_or-map-range_with_len (word_at (bits n ws)) 0 count k k 0 small (omega arith)
+        ∙ ap mask_l (same_bits k)
+        ∙ mask-word_bits (get_or ws k 0) (row.fits k)

@@ -1,7 +1,8 @@
 -- How a row is kept: its places as the bits of words of 64 bits.
-use Rattle.std.specs.Prelude.{◌≡◌, ℕ, ◌*◌, ◌/◌, ◌%◌, ◌^◌, ◌<◌, ◌≤◌, ◌==◌, Bool, true, false, List, length, map, slice_index, bit_and, IsTrue}
+use Rattle.std.specs.Prelude.{◌≡◌, ℕ, ◌+◌, ◌*◌, ◌/◌, ◌%◌, ◌^◌, ◌<◌, ◌≤◌, ◌==◌, Bool, true, false, List, length, map, slice_index, slice_index_or, bit_and, IsTrue}
 use Rattle.std.specs.Int.{bit_at, bit_not, div_ceil, w64}
 use Rattle.std.specs.List.{range_with_len}
+use lib.Lanes.{mask_l}
 
 -- bit i of a list of words of 64 bits
 abbrev pub bit_of : List ℕ → ℕ → Bool
@@ -34,3 +35,11 @@ pub record IsFirstBit (words : List ℕ) (from i : ℕ) : Type 0 where
   pub from_on : from ≤ i
   pub set : bit_of words i ≡ true
   pub least : (j : ℕ) → from ≤ j → j < i → bit_of words j ≡ false
+
+-- the word of the 64 places from 64 * k on, the first of them as the lowest bit
+abbrev pub word_at : List Bool → ℕ → ℕ
+word_at row k = mask_l (map (λ j. slice_index_or row (64 * k + j) false) (range_with_len 0 64))
+
+-- the words in which a row is kept
+unfoldable pub words_of : List Bool → List ℕ
+words_of row = map (word_at row) (range_with_len 0 (4 * div_ceil (length row) 256))

@@ -7,6 +7,7 @@ ghost use Rattle.bit_rows.specs.Rows.{Has, IsSubset, Meets, IsEmptyFrom, IsLeast
 use crate::first::first_bit;
 use crate::lanes::{and_not_words, and_words, or_words, words_apart, words_equal, words_within};
 use std::alloc::{AllocError, Global};
+use std::hash::{Hash, Hasher};
 use std::marker::Model;
 
 /// A row of bits: `len` of them, in words of 64, with no bit set past the last.
@@ -188,5 +189,41 @@ impl Row {
         ensures elsewhere { (s : ℕ) → s / 64 ≢ k → Has self.new s ↔ Has self.old s }
     {
         self.words[k] = word;
+    }
+}
+
+impl PartialEq for Row {
+    ghost use Rattle.std.specs.Cmp.{bool_eq_equiv, partial_equiv_from_equiv};
+    ghost use Rattle.std.specs.Cmp.Lexicographic.{lists_equiv, pointwise};
+    ghost use Rattle.std.specs.Bool.{beq};
+
+    ghost eq = { pointwise beq };
+
+    ghost laws = { partial_equiv_from_equiv (lists_equiv bool_eq_equiv) };
+
+    fn eq(&self, other: &Row) -> bool {
+        self.len == other.len && self.equals(other)
+    }
+}
+
+impl Eq for Row {
+    ghost use Rattle.std.specs.Cmp.{bool_eq_equiv};
+    ghost use Rattle.std.specs.Cmp.Lexicographic.{lists_equiv};
+
+    ghost laws = { lists_equiv bool_eq_equiv };
+}
+
+impl Hash for Row {
+    ghost use Rattle.std.specs.Hash as fed;
+    ghost use Rattle.std.specs.Cmp.{booleans_Decides};
+    ghost use Rattle.std.specs.Cmp.Lexicographic.{pointwise_decides};
+    ghost use Rattle.bit_rows.specs.Bits.{words_of};
+
+    ghost hash_input = { λ row. fed.slice fed.u64 (words_of row) };
+
+    ghost respects_eq = { (fed.same_Alike (λ row. fed.slice fed.u64 (words_of row)) (pointwise_decides booleans_Decides)).fed };
+
+    fn hash<H: Hasher>(&self, state: &mut H) {
+        self.words.as_slice().hash(state);
     }
 }

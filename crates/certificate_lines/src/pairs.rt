@@ -46,7 +46,7 @@ fn put_members(out: &mut Vec<u8>, names: &[Name], set: &Row) -> Result<(), Alloc
 }
 
 /// The pair without a line feed.
-fn put_pair(out: &mut Vec<u8>, a: &Listed, b: &Listed, pair: &Pair) -> Result<(), AllocError>
+pub fn put_pair(out: &mut Vec<u8>, a: &Listed, b: &Listed, pair: &Pair) -> Result<(), AllocError>
     requires { FitsPair a.now b.now pair.now }
     ensures { OnOk result (out.new.items ≡ out.old.items ++ pair_text a.now b.now pair.now) }
 {
@@ -117,7 +117,7 @@ fn names_of(alloc: Global, at: u64, words: &[&[u8]]) -> Result<Vec<Name>, NodesT
 }
 
 /// The names of a pair's state and of its members.
-fn spelled_of(alloc: Global, at: u64, words: &[&[u8]]) -> Result<(Name, Vec<Name>), NodesTextError>
+pub fn spelled_of(alloc: Global, at: u64, words: &[&[u8]]) -> Result<(Name, Vec<Name>), NodesTextError>
     ensures { Spells {Y = List ℕ × List (List ℕ)} at (λ r. (r.0, r.1.items)) result (spelled_words (map (λ x. x.now) words.now)) }
 {
     let [state, colon, members @ ..] = words else {
@@ -137,7 +137,7 @@ fn spelled_of(alloc: Global, at: u64, words: &[&[u8]]) -> Result<(Name, Vec<Name
 }
 
 /// The places of the states that the names are, of which the first stands at this byte.
-fn places_of(
+pub fn places_of(
     alloc: Global,
     states: &StatePlaces,
     from: usize,
@@ -163,7 +163,7 @@ fn places_of(
 }
 
 /// The set of these places.
-fn set_of(alloc: Global, n: usize, places: &[u32]) -> Result<Row, AllocError>
+pub fn set_of(alloc: Global, n: usize, places: &[u32]) -> Result<Row, AllocError>
     requires { All (λ s. s < n) places.now }
     ensures { IfOk result (λ row. row ≡ row_with n places.now) }
 {

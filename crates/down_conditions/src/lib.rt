@@ -14,8 +14,6 @@ mod finals;
 mod order;
 mod search;
 mod shift;
-#[cfg(test)]
-mod tests;
 
 pub use apart::first_covered;
 pub use choices::first_refuted;

@@ -54,7 +54,7 @@ rising_apart ts h i j d lt within e = precedes_none (get_or ts i d) (subst (λ t
 
 module _ (symbols : List Symbol) (H : Rules) (rules : List Rule) (ties : Ties symbols H rules) where
   -- the rules under one symbol
-  under_symbol : (k : ℕ) (a : Symbol) (kids : List ℕ) (q : ℕ) → IsAt symbols k a → Contains rules (record { symbol = k; kids = kids; parent = q }) ↔ H a kids q
+  pub under_symbol : (k : ℕ) (a : Symbol) (kids : List ℕ) (q : ℕ) → IsAt symbols k a → Contains rules (record { symbol = k; kids = kids; parent = q }) ↔ H a kids q
   under_symbol k a kids q at = (
     λ m. ties.within k a kids q at m,
     λ h. let o = ties.out a kids q h in

@@ -36,12 +36,12 @@ is_equal Less e = absurd (omega (arith, e))
 is_equal Equal e = refl
 is_equal Greater e = absurd (omega (arith, e))
 
-no_less : (o p : Ordering) → is_lt (ordering_then o p) ≡ false → is_lt o ≡ false
+pub no_less : (o p : Ordering) → is_lt (ordering_then o p) ≡ false → is_lt o ≡ false
 no_less Less p e = e
 no_less Equal p e = refl
 no_less Greater p e = refl
 
-turns_itself : (o : Ordering) → o ≡ ordering_reverse o → o ≡ Equal
+pub turns_itself : (o : Ordering) → o ≡ ordering_reverse o → o ≡ Equal
 turns_itself Less e = absurd cc
 turns_itself Equal e = refl
 turns_itself Greater e = absurd cc

@@ -6,3 +6,7 @@ pub mod Parts
 pub mod Tables
 pub mod Unions
 pub mod OneRule
+pub mod Stepping
+pub mod Grouping
+pub mod UpSteps
+pub mod Samples

@@ -1,3 +1,4 @@
 pub mod Index
 pub mod Moves
 pub mod Pair
+pub mod Steps

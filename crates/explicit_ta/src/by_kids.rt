@@ -1,6 +1,6 @@
 //! Rules in order of their children.
 
-ghost use Rattle.std.specs.Prelude.{◌≡◌, ◌↔◌, Contains, IfOk};
+ghost use Rattle.std.specs.Prelude.{◌≡◌, ◌≢◌, ◌↔◌, AllPairs, Contains, IfOk};
 ghost use Rattle.std.specs.List.Sorted.{IsNonDecreasingBy};
 ghost use Rattle.tree_definitions.specs.Automaton.{Rule as RuleSpec};
 ghost use Rattle.explicit_ta.specs.Index.{HaveSameRules};
@@ -31,7 +31,8 @@ impl Model for ByKids {
 impl ByKids {
     /// These rules.
     pub fn new(alloc: Global, rules: &[Rule]) -> Result<ByKids, AllocError>
-        ensures { IfOk result (λ b. HaveSameRules b rules.now) }
+        ensures same { IfOk result (λ b. HaveSameRules b rules.now) }
+        ensures distinct { AllPairs ◌≢◌ rules.now → IfOk result (λ b. AllPairs ◌≢◌ b) }
     {
         let mut sorted = Vec::from_clones(alloc, rules)?;
         sorted.sort_by(|r, s| {
@@ -47,6 +48,7 @@ impl ByKids {
     pub fn at(&self, kids: &[u32]) -> &[Rule]
         ensures members { (r : RuleSpec) → Contains result.now r ↔ (Contains self.now r × (r.kids ≡ kids.now)) }
         ensures rising { IsNonDecreasingBy (λ (r : RuleSpec). r.symbol) result.now }
+        ensures distinct { AllPairs ◌≢◌ self.now → AllPairs ◌≢◌ result.now }
     {
         let from = self
             .rules

@@ -7,9 +7,9 @@ mod downward;
 mod explicit;
 mod pair;
 mod part;
-#[cfg(test)]
-mod tests;
+mod steps;
 mod union;
+mod up_groups;
 mod upward;
 
 pub use explicit::Explicit;

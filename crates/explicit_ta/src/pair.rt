@@ -8,18 +8,23 @@ ghost use Rattle.tree_definitions.specs.Relation.{IsAt};
 ghost use Rattle.ta_model.specs.Pairing.{ArePaired, FitTogether};
 ghost use Rattle.explicit_ta.specs.Pair.{joint_rules};
 
+use crate::by_kids::ByKids;
 use crate::downward::{classes_at, clusters_of};
 use crate::explicit::{Explicit, row_of};
+use crate::steps::Steps;
 use crate::union::union_of;
+use crate::up_groups::groups_at;
+use crate::upward::{leads, tuples_from, uses_of};
 use bit_rows::Row;
 use ranked_alphabet::{Alphabet, AlphabetError};
 use shared_clusters::Clusters;
 use smallvec::SmallVec;
 use std::alloc::{AllocError, Global};
 use std::marker::Model;
-use ta_model::{Class, Joint, Listed, PairError, Rule, Symbol};
+use ta_model::{Class, Joint, Kids, Listed, MacroStore, PairError, Rule, Symbol, UpGroup};
 
-/// Two automata as their lists, with the rules of both by joint parent.
+/// Two automata as their lists, with the rules of both by joint parent, the left rules by child and
+/// by children, and the right rules by joint symbol and first child.
 #[derive(Drop)]
 pub struct ExplicitPair {
     left: Listed,
@@ -29,6 +34,9 @@ pub struct ExplicitPair {
     clusters: Clusters,
     left_finals: Row,
     right_finals: Row,
+    uses: Clusters,
+    by_kids: ByKids,
+    steps: Steps,
 }
 
 impl Model for ExplicitPair {
@@ -38,7 +46,7 @@ impl Model for ExplicitPair {
 
     ghost view = { λ p. record { left = p.left; right = p.right } };
 
-    ghost invariant = { λ p. IsPairEncoding p.left p.right p.symbols p.places.items p.clusters p.left_finals p.right_finals };
+    ghost invariant = { λ p. IsPairEncoding p.left p.right p.symbols p.places.items p.clusters p.left_finals p.right_finals p.uses p.by_kids p.steps };
 }
 
 /// The alphabet of these symbols.
@@ -140,6 +148,9 @@ impl ExplicitPair {
         let clusters = clusters_of(alloc, left_states + right_states, &rules)?;
         let left_finals = row_of(alloc, left_states, left.finals())?;
         let right_finals = row_of(alloc, right_states, right.finals())?;
+        let uses = uses_of(alloc, left_states, left.rules())?;
+        let by_kids = ByKids::new(alloc, left.rules())?;
+        let steps = Steps::of(alloc, right.rules(), &places)?;
         Ok(ExplicitPair {
             left,
             right,
@@ -148,6 +159,9 @@ impl ExplicitPair {
             clusters,
             left_finals,
             right_finals,
+            uses,
+            by_kids,
+            steps,
         })
     }
 
@@ -212,6 +226,25 @@ impl Joint for ExplicitPair {
     fn classes(&self, x: u32, y: u32) -> Result<Vec<Class>, AllocError> {
         let _distinct = self.symbols.symbols();
         classes_at(self.left.allocator(), &self.clusters, x, y)
+    }
+
+    fn kids_with(&self, q: u32) -> Result<Vec<Kids>, AllocError> {
+        let _listed = self.left.rules();
+        tuples_from(self.left.allocator(), &self.uses, q)
+    }
+
+    fn up_groups(
+        &mut self,
+        kids: &[u32],
+        sets: &[usize],
+        store: &mut MacroStore,
+    ) -> Result<Vec<UpGroup>, AllocError> {
+        let alloc = self.left.allocator();
+        let _left = self.left.rules();
+        let _right = self.right.rules();
+        let _distinct = self.symbols.symbols();
+        let pairs = leads(alloc, &self.by_kids, kids)?;
+        groups_at(alloc, &pairs, &self.steps, sets, store)
     }
 
     fn joined(&self) -> Result<Explicit, AllocError> {

@@ -1,6 +1,6 @@
 //! Rules by their children.
 
-ghost use Rattle.std.specs.Prelude.{◌≡◌, ◌<◌, ◌↔◌, ℕ, List, All, Contains, IfOk, OnOk, length};
+ghost use Rattle.std.specs.Prelude.{◌≡◌, ◌≢◌, ◌<◌, ◌↔◌, ℕ, List, All, AllPairs, Contains, IfOk, OnOk, length};
 ghost use Rattle.std.specs.List.Sorted.{IsNonDecreasingBy};
 ghost use Rattle.ta_model.specs.Tuples.{kids_of};
 ghost use Rattle.shared_clusters.specs.Clusters.{AreTuplesOf};
@@ -64,6 +64,7 @@ pub fn tuples_from(alloc: Global, uses: &Clusters, q: u32) -> Result<Vec<Kids>, 
 pub fn leads(alloc: Global, rules: &ByKids, kids: &[u32]) -> Result<Vec<(u32, u32)>, AllocError>
     ensures members { IfOk result (λ v. AreLeads rules.now kids.now v.items) }
     ensures rising { IfOk result (λ v. IsNonDecreasingBy (λ x. x.0) v.items) }
+    ensures distinct { AllPairs ◌≢◌ rules.now → IfOk result (λ v. AllPairs ◌≢◌ v.items) }
 {
     let mut pairs = Vec::new(alloc);
     for rule in rules.at(kids) {

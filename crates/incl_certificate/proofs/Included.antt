@@ -16,10 +16,10 @@ use Rattle.incl_certificate.specs.Certificates.{FitsRelation, FitPairs, FitsUp, 
 use Rattle.incl_certificate.specs.Telling.{IsDownBehind, IsUpBehind}
 use Rattle.incl_certificate.specs.Text.{included_line, up_line, down_line, left_word, right_word, both_word, up_text, down_text, certificate_text}
 use Rattle.incl_certificate.specs.declared.certificate.Certificate.{Certificate}
-use Rattle.incl_certificate.specs.declared.certificate.Certificate.TheVariants.{Up, Down, Tree}
+use Rattle.incl_certificate.specs.declared.certificate.Certificate.TheVariants.{Up, Down, Tree, UpTrail}
 use Rattle.incl_certificate.specs.declared.reading.CertError.{CertError}
 
-relation_fits : (word : List ℕ) (n : ℕ) (text : List ℕ) (at : ℕ) (piece : Piece Matrix) → IsRelationAt word n text at piece → FitsRelation n piece.value
+pub relation_fits : (word : List ℕ) (n : ℕ) (text : List ℕ) (at : ℕ) (piece : Piece Matrix) → IsRelationAt word n text at piece → FitsRelation n piece.value
 relation_fits word n text at piece h = record { square = h.square; few = h.few }
 
 pairs_fit : (A B : Automaton) (text : List ℕ) (pairs : List Pair) → ArePairsOf A B text pairs → FitPairs A B pairs
@@ -87,6 +87,7 @@ module _ (A B : Automaton) (text : List ℕ) (first : stands_at included_line te
       ∙ ap (λ x. x ++ last_part) (sym (append_assoc head first_part second_part))
   up_is (Down both pairs) second h = absurd h
   up_is (Tree nodes) second h = absurd h
+  up_is (UpTrail left right budget entries) second h = absurd h
 
   down_is : (c : Certificate) → stands_at down_line text 9 ≡ true → IsDownBehind A B (drop 28 text) c → text ≡ certificate_text A B c
   unfolding down_text
@@ -97,6 +98,7 @@ module _ (A B : Automaton) (text : List ℕ) (first : stands_at included_line te
       ∙ ap (λ rest. head ++ rest) h
       ∙ sym (append_assoc head (relation_text both_word both) (pairs_text A B pairs.items))
   down_is (Tree nodes) second h = absurd h
+  down_is (UpTrail left right budget entries) second h = absurd h
 
   pub up_whole : (answer : Result Certificate CertError) → stands_at up_line text 9 ≡ true → IfOk answer (IsUpBehind A B (drop 26 text)) → IfOk answer (λ c. text ≡ certificate_text A B c)
   up_whole answer second h = IfOk-weaker answer (IsUpBehind A B (drop 26 text)) (λ c. text ≡ certificate_text A B c) (λ c. up_is c second) h

@@ -7,3 +7,5 @@ pub mod ReadBack
 pub mod Merging
 pub mod Failing
 pub mod Included
+pub mod Trailing
+pub mod Undecided

@@ -18,16 +18,19 @@ use Rattle.witness_trees.specs.Judged.{Is, BadAt, judged, then_judged}
 use Rattle.certificate_lines.specs.Lines.{stands_at}
 use Rattle.certificate_lines.specs.Pairs.{pairs_in, pairs_text}
 use Rattle.certificate_lines.specs.Relations.{relation_in, relation_text}
+use Rattle.tree_definitions.specs.UpTrail.{UpEntry}
+use Rattle.entry_lines.specs.Entries.{up_entries_text}
+use Rattle.entry_lines.proofs.ReadBack.{up_entries_back}
 use Rattle.certificate_lines.proofs.PairReadBack.{pairs_back}
 use Rattle.certificate_lines.proofs.RelationBack.{relation_back}
 use Rattle.certificate_lines.proofs.Starts.{starts_own}
 use Rattle.tree_definitions.specs.Cover.{Pair}
 use Rattle.tree_definitions.specs.Relation.{Matrix, IsSquare}
 use Rattle.witness_trees.proofs.ReadBack.{printed_back as nodes_back}
-use Rattle.incl_certificate.specs.Certificates.{Fits, FitsRelation, FitPairs, FitsUp, FitsDown, FitsTree}
-use Rattle.incl_certificate.specs.Text.{Reads, SaidUp, SaidDown, answer_line, kind_line, included_line, up_line, down_line, left_word, right_word, both_word, up_text, down_text, tree_text, certificate_text, said_tree, behind_right, behind_left, behind_both, judged_tree, judged_up, judged_down, judged_included, judged_certificate, moved}
+use Rattle.incl_certificate.specs.Certificates.{Fits, FitsRelation, FitPairs, FitsUp, FitsDown, FitsTree, FitsUpTrail}
+use Rattle.incl_certificate.specs.Text.{Reads, SaidUp, SaidDown, SaidUpTrail, answer_line, undecided_line, up_trail_line, up_trail_text, behind_trail_left, behind_trail_right, judged_undecided, judged_up_trail, kind_line, included_line, up_line, down_line, left_word, right_word, both_word, up_text, down_text, tree_text, certificate_text, said_tree, behind_right, behind_left, behind_both, judged_tree, judged_up, judged_down, judged_included, judged_certificate, moved}
 use Rattle.incl_certificate.specs.declared.certificate.Certificate.{Certificate}
-use Rattle.incl_certificate.specs.declared.certificate.Certificate.TheVariants.{Up, Down, Tree}
+use Rattle.incl_certificate.specs.declared.certificate.Certificate.TheVariants.{Up, Down, Tree, UpTrail}
 use Rattle.incl_certificate.proofs.Lines.{behind, is_behind}
 
 -- a text begins with its first part
@@ -65,17 +68,26 @@ split_text text rest lines answer kind a e r k f l =
     ∙ sym (append_assoc answer kind lines)
     ∙ ap (λ x. x ++ kind ++ lines) a ∙ ap (λ x. answer_line ++ x ++ lines) k
 
--- a tree's text doesn't begin as one that says that A is included
+-- a tree's text begins as none of the others
 not_included_first : (rest : List ℕ) → stands_at included_line (answer_line ++ rest) 0 ≡ false
 unfolding answer_line
 not_included_first rest = refl
 
-pub not_included : (A B : Automaton) (text : List ℕ) → stands_at included_line text 0 ≡ false → judged_certificate A B text ≡ said_tree (judged_tree A B text)
-unfolding judged_certificate
-not_included A B text e = ap (λ b. cond b (judged_included A B text) (said_tree (judged_tree A B text))) e
+not_undecided_first : (rest : List ℕ) → stands_at undecided_line (answer_line ++ rest) 0 ≡ false
+unfolding answer_line
+not_undecided_first rest = refl
 
-tree_first : (nodes : NodeList) → stands_at included_line (tree_text nodes) 0 ≡ false
-tree_first nodes = ap (λ text. stands_at included_line text 0) (append_assoc answer_line kind_line (nodes_text nodes)) ∙ not_included_first (kind_line ++ nodes_text nodes)
+neither_first : (A B : Automaton) (text : List ℕ) → stands_at included_line text 0 ≡ false → stands_at undecided_line text 0 ≡ false → judged_certificate A B text ≡ said_tree (judged_tree A B text)
+unfolding judged_certificate
+neither_first A B text e f =
+    ap (λ b. cond b (judged_included A B text) (cond (stands_at undecided_line text 0) (judged_undecided A B text) (said_tree (judged_tree A B text)))) e
+    ∙ ap (λ b. cond b (judged_undecided A B text) (said_tree (judged_tree A B text))) f
+
+tree_first : (A B : Automaton) (nodes : NodeList) → judged_certificate A B (tree_text nodes) ≡ said_tree (judged_tree A B (tree_text nodes))
+tree_first A B nodes =
+    let e = append_assoc answer_line kind_line (nodes_text nodes) in
+    neither_first A B (tree_text nodes) (ap (λ text. stands_at included_line text 0) e ∙ not_included_first (kind_line ++ nodes_text nodes))
+    (ap (λ text. stands_at undecided_line text 0) e ∙ not_undecided_first (kind_line ++ nodes_text nodes))
 
 -- the first line of a text that says that A is included, and the line of its kind
 starts_there : (line rest text : List ℕ) (at : ℕ) → drop at text ≡ line ++ rest → stands_at line text at ≡ true
@@ -83,7 +95,7 @@ starts_there line rest text at here = ap (λ xs. starts_with nat_eq xs line) her
 
 included_first : (A B : Automaton) (text : List ℕ) → stands_at included_line text 0 ≡ true → judged_certificate A B text ≡ judged_included A B text
 unfolding judged_certificate
-included_first A B text e = ap (λ b. cond b (judged_included A B text) (said_tree (judged_tree A B text))) e
+included_first A B text e = ap (λ b. cond b (judged_included A B text) (cond (stands_at undecided_line text 0) (judged_undecided A B text) (said_tree (judged_tree A B text)))) e
 
 -- what stands behind the lines of a relation
 behind_relation : (word rest text : List ℕ) (at : ℕ) (m : Matrix) → drop at text ≡ relation_text word m ++ rest → drop (at + length (relation_text word m)) text ≡ rest
@@ -169,7 +181,51 @@ down_back A B both pairs a b fits =
     let e = down_grouped A B both pairs in
     down_judged A B text lines e ∙ down_lines_back A B a b pairs fits.pairs both text 28 fits.both (ap (drop 28) e)
 
+-- a trail's text, grouped from the right
+trail_grouped : (A B : Automaton) (left right : Matrix) (budget : ℕ) (entries : List UpEntry)
+    → up_trail_text A B left right budget entries ≡ undecided_line ++ (up_trail_line ++ (relation_text left_word left ++ (relation_text right_word right ++ up_entries_text A B budget entries)))
+unfolding up_trail_text
+trail_grouped A B left right budget entries =
+    let head = undecided_line ++ up_trail_line in
+    let first_part = relation_text left_word left in
+    let second_part = relation_text right_word right in
+    let last_part = up_entries_text A B budget entries in
+    ap (λ x. x ++ last_part) (append_assoc head first_part second_part) ∙ append_assoc head (first_part ++ second_part) last_part
+    ∙ ap (λ x. head ++ x) (append_assoc first_part second_part last_part)
+
+no_included : (rest : List ℕ) → stands_at included_line (undecided_line ++ rest) 0 ≡ false
+no_included rest = refl
+
+trail_judged : (A B : Automaton) (text rest : List ℕ) → text ≡ undecided_line ++ (up_trail_line ++ rest) → judged_certificate A B text ≡ judged_up_trail A B text 33
+unfolding judged_certificate judged_undecided
+trail_judged A B text rest e =
+    ap (λ b. cond b (judged_included A B text) (cond (stands_at undecided_line text 0) (judged_undecided A B text) (said_tree (judged_tree A B text))))
+    (ap (λ x. stands_at included_line x 0) e ∙ no_included (up_trail_line ++ rest))
+    ∙ ap (λ b. cond b (judged_undecided A B text) (said_tree (judged_tree A B text))) (starts_there undecided_line (up_trail_line ++ rest) text 0 e)
+    ∙ ap (λ b. cond b (judged_up_trail A B text 33) (BadAt 10)) (starts_there up_trail_line rest text 10 (ap (drop 10) e))
+
+trail_lines_back : (A B : Automaton) (left right : Matrix) (budget : ℕ) (entries : List UpEntry) → IsListed A → IsListed B → FitsUpTrail A B left right budget entries → (text : List ℕ) (at : ℕ)
+    → drop at text ≡ relation_text left_word left ++ (relation_text right_word right ++ up_entries_text A B budget entries) → judged_up_trail A B text at ≡ Is (SaidUpTrail left right budget entries)
+unfolding judged_up_trail
+trail_lines_back A B left right budget entries a b fits text at here =
+    let second = at + length (relation_text left_word left) in
+    let behind = behind_relation left_word (relation_text right_word right ++ up_entries_text A B budget entries) text at left here in
+    let third = second + length (relation_text right_word right) in
+    let last = behind_relation right_word (up_entries_text A B budget entries) text second right behind in
+    ap (λ v. then_judged v (behind_trail_left A B text)) (fitting_back left_word (relation_text right_word right ++ up_entries_text A B budget entries) text at (length A.states) left fits.left here)
+    ∙ ap (λ v. then_judged v (behind_trail_right A B text left)) (fitting_back right_word (up_entries_text A B budget entries) text second (length B.states) right fits.right behind)
+    ∙ ap (λ v. then_judged v (λ found. Is (SaidUpTrail left right found.budget found.entries))) (up_entries_back A B a b budget entries fits.entries text third last)
+
+up_trail_back : (A B : Automaton) (left right : Matrix) (budget : ℕ) (entries : List UpEntry) → IsListed A → IsListed B → FitsUpTrail A B left right budget entries
+    → judged_certificate A B (up_trail_text A B left right budget entries) ≡ Is (SaidUpTrail left right budget entries)
+up_trail_back A B left right budget entries a b fits =
+    let text = up_trail_text A B left right budget entries in
+    let lines = relation_text left_word left ++ (relation_text right_word right ++ up_entries_text A B budget entries) in
+    let e = trail_grouped A B left right budget entries in
+    trail_judged A B text lines e ∙ trail_lines_back A B left right budget entries a b fits text 33 (ap (drop 33) e)
+
 pub printed_back : (A B : Automaton) (c : Certificate) → IsListed A → IsListed B → Fits A B c → Reads A B (Ok c) (judged_certificate A B (certificate_text A B c))
 printed_back A B (Up left right pairs) a b fits = up_back A B left right pairs.items a b fits
 printed_back A B (Down both pairs) a b fits = down_back A B both pairs.items a b fits
-printed_back A B (Tree nodes) a b fits = not_included A B (tree_text nodes) (tree_first nodes) ∙ ap said_tree (tree_back A B nodes a b fits)
+printed_back A B (Tree nodes) a b fits = tree_first A B nodes ∙ ap said_tree (tree_back A B nodes a b fits)
+printed_back A B (UpTrail left right budget entries) a b fits = up_trail_back A B left right budget entries.items a b fits

@@ -4,10 +4,12 @@ use Rattle.tree_definitions.specs.Automaton.{Automaton}
 use Rattle.tree_definitions.specs.Cover.{Pair, FitsPair}
 use Rattle.tree_definitions.specs.Joint.{joint_symbols}
 use Rattle.tree_definitions.specs.Relation.{Matrix, IsSquare}
+use Rattle.tree_definitions.specs.UpTrail.{UpEntry}
 use Rattle.listed_pairs.specs.Order.{AreRising}
+use Rattle.entry_lines.specs.Fitting.{AreUpEntries}
 use Rattle.witness_trees.specs.Nodes.{IsNodeList, NodeList}
 use Rattle.incl_certificate.specs.declared.certificate.Certificate.{Certificate}
-use Rattle.incl_certificate.specs.declared.certificate.Certificate.TheVariants.{Up, Down, Tree}
+use Rattle.incl_certificate.specs.declared.certificate.Certificate.TheVariants.{Up, Down, Tree, UpTrail}
 
 -- a relation between n states, of which there are at most 20,000
 pub record FitsRelation (n : ℕ) (m : Matrix) : Type 0 where
@@ -31,6 +33,12 @@ pub record FitsDown (A B : Automaton) (R : Matrix) (X : List Pair) : Type 0 wher
   pub both : FitsRelation (length A.states + length B.states) R
   pub pairs : FitPairs A B X
 
+-- a relation of A, one of B, a budget from 1 to 1,000,000, and one entry more, each of which fits at its place
+pub record FitsUpTrail (A B : Automaton) (RA RB : Matrix) (K : ℕ) (E : List UpEntry) : Type 0 where
+  pub left : FitsRelation (length A.states) RA
+  pub right : FitsRelation (length B.states) RB
+  pub entries : AreUpEntries A B K E
+
 -- the nodes are over the symbols of A and then those of B that A lacks, and there is one at least
 pub record FitsTree (A B : Automaton) (nodes : NodeList) : Type 0 where
   pub list : IsNodeList nodes
@@ -42,3 +50,4 @@ abbrev pub Fits : Automaton → Automaton → Certificate → Type 0
 Fits A B (Up left right pairs) = FitsUp A B left right pairs.items
 Fits A B (Down both pairs) = FitsDown A B both pairs.items
 Fits A B (Tree nodes) = FitsTree A B nodes
+Fits A B (UpTrail left right budget entries) = FitsUpTrail A B left right budget entries.items

@@ -7,21 +7,23 @@ use Rattle.tree_definitions.specs.Cover.{Pair, Post, Rejects}
 use Rattle.tree_definitions.specs.DownCert.{DownCert, IsCoveredDown}
 use Rattle.tree_definitions.specs.Joint.{JointRule}
 use Rattle.tree_definitions.specs.Language.{Included as IsIncluded}
-use Rattle.tree_definitions.specs.Relation.{Matrix, Row, Holds as Relates}
+use Rattle.tree_definitions.specs.Relation.{Matrix, Row, IsAt, Holds as Relates}
 use Rattle.tree_definitions.specs.Simulation.{IsUp, IsDown}
 use Rattle.tree_definitions.specs.UpCert.{UpCert, AreListed, IsCoveredUp as IsStepCovered}
+use Rattle.tree_definitions.specs.UpTrail.{UpEntry, IsUpStep, UpTrail as IsUpTrail}
 use Rattle.tree_definitions.specs.Witness.{NoCert}
 use Rattle.listed_pairs.specs.Places.{IsFirst, IsNth}
 use Rattle.up_conditions.specs.Covering.{IsUncoveredLeaf, IsUncoveredStep}
 use Rattle.up_conditions.specs.Listed.{IsCovered as IsCoveredUp}
+use Rattle.up_conditions.specs.Trailing.{IsNthAt, RejectsEntry, IsCoveredEntry}
 use Rattle.down_conditions.specs.Covering.{IsCovered as IsCoveredPair}
 use Rattle.down_conditions.specs.Refuting.{IsRefuted, IsSplitCovered}
 use Rattle.witness_trees.specs.Nodes.{NodeList}
 use Rattle.incl_certificate.specs.Trees.{IsAccepted}
 use Rattle.incl_certificate.specs.declared.certificate.Certificate.{Certificate}
-use Rattle.incl_certificate.specs.declared.certificate.Certificate.TheVariants.{Up, Down, Tree}
+use Rattle.incl_certificate.specs.declared.certificate.Certificate.TheVariants.{Up, Down, Tree, UpTrail}
 use Rattle.incl_certificate.specs.declared.checking.Verdict.{Verdict}
-use Rattle.incl_certificate.specs.declared.checking.Verdict.TheVariants.{Included, NotIncluded}
+use Rattle.incl_certificate.specs.declared.checking.Verdict.TheVariants.{Included, NotIncluded, Undecided}
 use Rattle.incl_certificate.specs.declared.checking.CheckError.{CheckError}
 use Rattle.incl_certificate.specs.declared.checking.CheckError.TheVariants.{Fails, Memory}
 
@@ -34,6 +36,7 @@ abbrev pub Holds : Automaton → Automaton → Certificate → Verdict → Type 
 Holds A B (Up left right pairs) verdict = (verdict ≡ Included) × UpCert A B (Relates left) (Relates right) pairs.items
 Holds A B (Down both pairs) verdict = (verdict ≡ Included) × DownCert A B (Relates both) pairs.items
 Holds A B (Tree nodes) verdict = (verdict ≡ NotIncluded) × NoCert A B nodes.symbols nodes.rows
+Holds A B (UpTrail left right budget entries) verdict = (verdict ≡ Undecided) × IsUpTrail A B (Relates left) (Relates right) budget entries.items
 
 -- the relations are upward simulations
 pub record AreUp (A B : Automaton) (RA RB : Matrix) : Type 0 where
@@ -90,6 +93,24 @@ pub data FailsDown (A B : Automaton) (both : Matrix) (pairs : List Pair) : ℕ �
   CoveredDown : (n : ℕ) → IsDown (JointRule A B) (Relates both) → AreFinalsCovered A B both pairs → AreChoicesCovered A B both pairs
       → IsFirst (IsNth pairs (IsCoveredPair A (Relates both) pairs)) n → FailsDown A B both pairs 5 n
 
+-- each entry's pair is a step from those of earlier entries
+abbrev pub AreUpSteps : Automaton → Automaton → List UpEntry → Type 0
+AreUpSteps A B entries = (i : ℕ) (entry : UpEntry) → IsAt entries i entry → IsUpStep A B entries i entry
+
+-- the pair of no entry rejects
+abbrev pub NoEntryRejects : Automaton → Automaton → List UpEntry → Type 0
+NoEntryRejects A B entries = (i : ℕ) (entry : UpEntry) → IsAt entries i entry → Rejects A B entry.pair → ⊥
+
+-- the same for an upward trail.
+-- 1: both relations are upward simulations; 8: each entry's pair is a step from those of earlier entries; 9: none rejects; 10: none is covered by the pair of an earlier entry
+pub data FailsUpTrail (A B : Automaton) (left right : Matrix) (entries : List UpEntry) : ℕ → ℕ → Type 0 where
+  LeftTrailFails : ¬ IsUp A (Relates left) → FailsUpTrail A B left right entries 1 1
+  RightTrailFails : IsUp A (Relates left) → ¬ IsUp B (Relates right) → FailsUpTrail A B left right entries 1 2
+  NoStep : (n : ℕ) → AreUp A B left right → IsFirst (IsNthAt entries (λ i entry. ¬ IsUpStep A B entries i entry)) n → FailsUpTrail A B left right entries 8 n
+  RejectingEntry : (n : ℕ) → AreUp A B left right → AreUpSteps A B entries → IsFirst (IsNth entries (RejectsEntry A B)) n → FailsUpTrail A B left right entries 9 n
+  CoveredEntry : (n : ℕ) → AreUp A B left right → AreUpSteps A B entries → NoEntryRejects A B entries
+      → IsFirst (IsNthAt entries (IsCoveredEntry (Relates left) (Relates right) entries)) n → FailsUpTrail A B left right entries 10 n
+
 -- condition 6: the tree is accepted by A. Condition 7: it isn't accepted by B. Both stand at the number of nodes
 pub data FailsTree (A B : Automaton) (nodes : NodeList) : ℕ → ℕ → Type 0 where
   Refused : ¬ IsAccepted A nodes → FailsTree A B nodes 6 (length nodes.rows)
@@ -100,6 +121,7 @@ abbrev pub FailsAt : Automaton → Automaton → Certificate → ℕ → ℕ →
 FailsAt A B (Up left right pairs) condition place = FailsUp A B left right pairs.items condition place
 FailsAt A B (Down both pairs) condition place = FailsDown A B both pairs.items condition place
 FailsAt A B (Tree nodes) condition place = FailsTree A B nodes condition place
+FailsAt A B (UpTrail left right budget entries) condition place = FailsUpTrail A B left right entries.items condition place
 
 -- what is answered where a condition fails, unless memory ran out
 abbrev pub FailsFirst : Automaton → Automaton → Certificate → CheckError → Type 0

@@ -3,11 +3,12 @@ use Rattle.std.specs.Prelude.{◌≡◌, ℕ, List, ◌++◌}
 use Rattle.tree_definitions.specs.Automaton.{Automaton}
 use Rattle.certificate_lines.specs.Pairs.{pairs_text}
 use Rattle.certificate_lines.specs.Relations.{relation_text}
+use Rattle.entry_lines.specs.Entries.{up_entries_text}
 use Rattle.witness_trees.specs.declared.reader.NodesTextError.{NodesTextError}
 use Rattle.witness_trees.specs.declared.reader.NodesTextError.TheVariants as lines
 use Rattle.incl_certificate.specs.Text.{left_word, right_word, both_word}
 use Rattle.incl_certificate.specs.declared.certificate.Certificate.{Certificate}
-use Rattle.incl_certificate.specs.declared.certificate.Certificate.TheVariants.{Up, Down, Tree}
+use Rattle.incl_certificate.specs.declared.certificate.Certificate.TheVariants.{Up, Down, Tree, UpTrail}
 use Rattle.incl_certificate.specs.declared.reading.CertError.{CertError}
 use Rattle.incl_certificate.specs.declared.reading.CertError.TheVariants.{BadText, UnknownName, Memory}
 
@@ -22,8 +23,17 @@ abbrev pub IsUpBehind : Automaton → Automaton → List ℕ → Certificate →
 IsUpBehind A B text (Up left right pairs) = text ≡ relation_text left_word left ++ relation_text right_word right ++ pairs_text A B pairs.items
 IsUpBehind A B text (Down both pairs) = ⊥
 IsUpBehind A B text (Tree nodes) = ⊥
+IsUpBehind A B text (UpTrail left right budget entries) = ⊥
 
 abbrev pub IsDownBehind : Automaton → Automaton → List ℕ → Certificate → Type 0
 IsDownBehind A B text (Up left right pairs) = ⊥
 IsDownBehind A B text (Down both pairs) = text ≡ relation_text both_word both ++ pairs_text A B pairs.items
 IsDownBehind A B text (Tree nodes) = ⊥
+IsDownBehind A B text (UpTrail left right budget entries) = ⊥
+
+abbrev pub IsUpTrailBehind : Automaton → Automaton → List ℕ → Certificate → Type 0
+IsUpTrailBehind A B text (Up left right pairs) = ⊥
+IsUpTrailBehind A B text (Down both pairs) = ⊥
+IsUpTrailBehind A B text (Tree nodes) = ⊥
+IsUpTrailBehind A B text (UpTrail left right budget entries) =
+    text ≡ relation_text left_word left ++ relation_text right_word right ++ up_entries_text A B budget entries.items

@@ -5,6 +5,7 @@ use Rattle.tree_definitions.specs.Automaton.{Automaton}
 use Rattle.tree_definitions.specs.Cover.{Pair}
 use Rattle.tree_definitions.specs.Joint.{joint_symbols}
 use Rattle.tree_definitions.specs.Relation.{Matrix}
+use Rattle.tree_definitions.specs.UpTrail.{UpEntry}
 use Rattle.tree_definitions.specs.Witness.{NodeRow}
 use Rattle.witness_trees.specs.Nodes.{NodeList}
 use Rattle.witness_trees.specs.NodesText.{nodes_text}
@@ -12,10 +13,11 @@ use Rattle.witness_trees.specs.Judged.{Verdict, Is, BadAt, UnknownAt, judged, th
 use Rattle.certificate_lines.specs.Lines.{Piece, stands_at}
 use Rattle.certificate_lines.specs.Pairs.{pairs_in, pairs_text}
 use Rattle.certificate_lines.specs.Relations.{relation_in, relation_text}
+use Rattle.entry_lines.specs.Entries.{BudgetedEntries, up_entries_in, up_entries_text}
 use Rattle.std.specs.declared.result.Result.{Result}
 use Rattle.std.specs.Prelude.{Ok, Err}
 use Rattle.incl_certificate.specs.declared.certificate.Certificate.{Certificate}
-use Rattle.incl_certificate.specs.declared.certificate.Certificate.TheVariants.{Up, Down, Tree}
+use Rattle.incl_certificate.specs.declared.certificate.Certificate.TheVariants.{Up, Down, Tree, UpTrail}
 use Rattle.incl_certificate.specs.declared.reading.CertError.{CertError}
 use Rattle.incl_certificate.specs.declared.reading.CertError.TheVariants.{BadText, UnknownName, Memory}
 
@@ -34,6 +36,12 @@ up_line = codes "certificate 1 up\n"
 abbrev pub down_line : List ℕ
 down_line = codes "certificate 1 down\n"
 
+abbrev pub undecided_line : List ℕ
+undecided_line = codes "undecided\n"
+
+abbrev pub up_trail_line : List ℕ
+up_trail_line = codes "certificate 1 up-trail\n"
+
 abbrev pub left_word : List ℕ
 left_word = codes "left"
 
@@ -49,6 +57,10 @@ up_text A B left right pairs = included_line ++ up_line ++ relation_text left_wo
 unfoldable pub down_text : Automaton → Automaton → Matrix → List Pair → List ℕ
 down_text A B both pairs = included_line ++ down_line ++ relation_text both_word both ++ pairs_text A B pairs
 
+unfoldable pub up_trail_text : Automaton → Automaton → Matrix → Matrix → ℕ → List UpEntry → List ℕ
+up_trail_text A B left right budget entries =
+    undecided_line ++ up_trail_line ++ relation_text left_word left ++ relation_text right_word right ++ up_entries_text A B budget entries
+
 abbrev pub tree_text : NodeList → List ℕ
 tree_text nodes = answer_line ++ kind_line ++ nodes_text nodes
 
@@ -57,6 +69,7 @@ abbrev pub certificate_text : Automaton → Automaton → Certificate → List �
 certificate_text A B (Up left right pairs) = up_text A B left right pairs.items
 certificate_text A B (Down both pairs) = down_text A B both pairs.items
 certificate_text A B (Tree nodes) = tree_text nodes
+certificate_text A B (UpTrail left right budget entries) = up_trail_text A B left right budget entries.items
 
 -- the bytes count from a later place
 abbrev pub moved : {X : Type 0} → ℕ → Verdict X → Verdict X
@@ -77,6 +90,7 @@ pub data Said : Type 0 where
   SaidUp : (left right : Matrix) (pairs : List Pair) → Said
   SaidDown : (both : Matrix) (pairs : List Pair) → Said
   SaidTree : (nodes : List NodeRow) → Said
+  SaidUpTrail : (left right : Matrix) (budget : ℕ) (entries : List UpEntry) → Said
 
 abbrev pub said_tree : Verdict (List NodeRow) → Verdict Said
 said_tree (Is nodes) = Is (SaidTree nodes)
@@ -110,9 +124,28 @@ judged_included A B text =
     else if stands_at down_line text 9 then judged_down A B text 28
     else BadAt 9
 
+-- both relations of a trail were read, and a budget and entries are due
+abbrev pub behind_trail_right : Automaton → Automaton → List ℕ → Matrix → Piece Matrix → Verdict Said
+behind_trail_right A B text left right = then_judged (up_entries_in A B text right.after) (λ found. Is (SaidUpTrail left right.value found.budget found.entries))
+
+-- the relation of A was read; that of B is due, and then a budget and entries
+abbrev pub behind_trail_left : Automaton → Automaton → List ℕ → Piece Matrix → Verdict Said
+behind_trail_left A B text left = then_judged (relation_in right_word (length B.states) text left.after) (behind_trail_right A B text left.value)
+
+-- what stands behind the first two lines of an upward trail: two relations, a budget and entries
+unfoldable pub judged_up_trail : Automaton → Automaton → List ℕ → ℕ → Verdict Said
+judged_up_trail A B text at = then_judged (relation_in left_word (length A.states) text at) (behind_trail_left A B text)
+
+-- what reading says behind the first line, which says that nothing was decided: the line of a kind, and what is due for it
+unfoldable pub judged_undecided : Automaton → Automaton → List ℕ → Verdict Said
+judged_undecided A B text = if stands_at up_trail_line text 10 then judged_up_trail A B text 33 else BadAt 10
+
 -- what reading says of a text
 unfoldable pub judged_certificate : Automaton → Automaton → List ℕ → Verdict Said
-judged_certificate A B text = if stands_at included_line text 0 then judged_included A B text else said_tree (judged_tree A B text)
+judged_certificate A B text =
+    if stands_at included_line text 0 then judged_included A B text
+    else if stands_at undecided_line text 0 then judged_undecided A B text
+    else said_tree (judged_tree A B text)
 
 -- the answer for a tree is the verdict, unless memory ran out
 abbrev pub ReadsTree : Automaton → Automaton → Result NodeList CertError → Verdict (List NodeRow) → Type 0
@@ -126,6 +159,7 @@ abbrev pub said_of : Certificate → Said
 said_of (Up left right pairs) = SaidUp left right pairs.items
 said_of (Down both pairs) = SaidDown both pairs.items
 said_of (Tree nodes) = SaidTree nodes.rows
+said_of (UpTrail left right budget entries) = SaidUpTrail left right budget entries.items
 
 -- the answer is the verdict, unless memory ran out
 abbrev pub Reads : Automaton → Automaton → Result Certificate CertError → Verdict Said → Type 0

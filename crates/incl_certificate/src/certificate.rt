@@ -1,12 +1,15 @@
 //! Certificates, and which of them can be written for two automata.
 
-ghost use Rattle.std.specs.Prelude.{◌≡◌, ◌<◌, ◌+◌, ◌↔◌, All, IsTrue, length};
+ghost use Rattle.std.specs.Prelude.{◌≡◌, ◌<◌, ◌≤◌, ◌+◌, ◌↔◌, ℕ, All, IsTrue, length};
 ghost use Rattle.tree_definitions.specs.Cover.{FitsPair};
+ghost use Rattle.tree_definitions.specs.Relation.{IsAt};
+ghost use Rattle.tree_definitions.specs.UpTrail.{UpEntry as Entry};
+ghost use Rattle.entry_lines.specs.Fitting.{AreUpEntries, FitsUpEntry};
 ghost use Rattle.incl_certificate.specs.Certificates.{FitPairs, Fits, FitsRelation};
 
 use crate::joint::are_joint;
 use bit_matrix::Matrix;
-use listed_pairs::{Pair, are_rising};
+use listed_pairs::{Pair, UpEntry, are_rising};
 use ta_model::Listed;
 use witness_trees::Nodes;
 
@@ -21,9 +24,22 @@ pub enum Certificate {
     },
     /// A relation on the states of both, those of the first and then those of the second, and pairs
     /// that a downward search came to.
-    Down { both: Matrix, pairs: Vec<Pair> },
+    Down {
+        both: Matrix,
+        pairs: Vec<Pair>,
+    },
     /// A tree, that of the last node, which the first automaton accepts and the second one doesn't.
-    Tree { nodes: Nodes },
+    Tree {
+        nodes: Nodes,
+    },
+    /// What an upward search came to within its budget: a relation of each automaton, and one entry
+    /// more than the budget. It decides nothing.
+    UpTrail {
+        left: Matrix,
+        right: Matrix,
+        budget: u64,
+        entries: Vec<UpEntry>,
+    },
 }
 
 /// Whether the relation is one between so many states.
@@ -59,6 +75,55 @@ fn pairs_fit(a: &Listed, b: &Listed, pairs: &[Pair]) -> bool
     pairs.len() < 4_294_967_295 && each_fits(a, b, pairs) && are_rising(pairs)
 }
 
+/// Whether these are places of entries before this one.
+fn are_earlier(kids: &[u32], place: usize) -> bool
+    ensures { IsTrue result ↔ All (λ k. k < place) kids.now }
+{
+    for kid in kids {
+        if *kid as usize >= place {
+            return false;
+        }
+    }
+    true
+}
+
+/// Whether the entry at this place has a pair that fits, and a symbol of A over as many earlier
+/// entries as its rank.
+fn entry_fits(a: &Listed, b: &Listed, place: usize, entry: &UpEntry) -> bool
+    ensures { IsTrue result ↔ FitsUpEntry a.now b.now place entry.now }
+{
+    let symbols = a.symbols();
+    if entry.symbol as usize >= symbols.len() {
+        return false;
+    }
+    let symbol = &symbols[entry.symbol as usize];
+    pair_fits(a, b, &entry.pair)
+        && entry.kids.len() == symbol.rank as usize
+        && are_earlier(&entry.kids, place)
+}
+
+/// Whether it is so for each of them.
+fn each_entry_fits(a: &Listed, b: &Listed, entries: &[UpEntry]) -> bool
+    ensures { IsTrue result ↔ ((k : ℕ) (entry : Entry) → IsAt entries.now k entry → FitsUpEntry a.now b.now k entry) }
+{
+    for place in 0..entries.len() {
+        if !entry_fits(a, b, place, &entries[place]) {
+            return false;
+        }
+    }
+    true
+}
+
+/// Whether they are one more than the budget, which is one, and fit.
+fn entries_fit(a: &Listed, b: &Listed, budget: u64, entries: &[UpEntry]) -> bool
+    ensures { IsTrue result ↔ AreUpEntries a.now b.now budget entries.now }
+{
+    if budget < 1 || budget > 1_000_000 {
+        return false;
+    }
+    entries.len() as u64 == budget + 1 && each_entry_fits(a, b, entries)
+}
+
 /// Whether the certificate can be written for these automata. Takes no memory.
 pub fn fits(a: &Listed, b: &Listed, c: &Certificate) -> bool
     ensures { IsTrue result ↔ Fits a.now b.now c.now }
@@ -77,6 +142,16 @@ pub fn fits(a: &Listed, b: &Listed, c: &Certificate) -> bool
                 return false;
             }
             are_joint(a.symbols(), b.symbols(), nodes)
+        }
+        Certificate::UpTrail {
+            left,
+            right,
+            budget,
+            entries,
+        } => {
+            relation_fits(left, a.states().len())
+                && relation_fits(right, b.states().len())
+                && entries_fit(a, b, *budget, entries)
         }
     }
 }

@@ -7,6 +7,7 @@ ghost use Rattle.incl_certificate.specs.Checked.{FailsFirst, Holds, MeansInclusi
 use crate::certificate::Certificate;
 use crate::downward::check_down;
 use crate::tree::check_tree;
+use crate::up_trail::check_up_trail;
 use crate::upward::check_up;
 use std::alloc::{AllocError, Global};
 use ta_model::Listed;
@@ -19,6 +20,8 @@ pub enum Verdict {
     Included,
     /// Some tree is accepted by the first automaton and not by the second.
     NotIncluded,
+    /// Nothing: a search came to its budget.
+    Undecided,
 }
 
 /// Why a certificate shows nothing.
@@ -62,6 +65,15 @@ pub fn check(alloc: Global, a: &Listed, b: &Listed, c: &Certificate) -> Result<V
         Certificate::Tree { nodes } => {
             check_tree(alloc, a, b, nodes)?;
             Ok(Verdict::NotIncluded)
+        }
+        Certificate::UpTrail {
+            left,
+            right,
+            budget,
+            entries,
+        } => {
+            check_up_trail(alloc, a, b, left, right, *budget, entries)?;
+            Ok(Verdict::Undecided)
         }
     }
 }

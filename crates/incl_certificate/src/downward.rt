@@ -9,9 +9,7 @@ ghost use Rattle.incl_certificate.specs.Checked.{FailsDown};
 
 use crate::checking::CheckError;
 use bit_matrix::Matrix;
-use down_conditions::{
-    first_covered, first_refuted, first_uncovered_final, is_down_simulation,
-};
+use down_conditions::{first_covered, first_refuted, first_uncovered_final, is_down_simulation};
 use listed_pairs::Pair;
 use std::alloc::Global;
 use ta_model::Listed;

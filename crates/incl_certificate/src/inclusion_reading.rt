@@ -13,7 +13,7 @@ use std::alloc::Global;
 use ta_model::Listed;
 use witness_trees::NodesTextError;
 
-fn error_of(error: NodesTextError) -> CertError
+pub(crate) fn error_of(error: NodesTextError) -> CertError
     ensures { result ≡ cert_error error }
 {
     match error {
@@ -24,7 +24,7 @@ fn error_of(error: NodesTextError) -> CertError
 }
 
 /// Whether the line stands at this byte.
-fn stands(text: &[u8], at: usize, line: &[u8]) -> bool
+pub(crate) fn stands(text: &[u8], at: usize, line: &[u8]) -> bool
     requires { at ≤ length text.now }
     ensures { result ≡ stands_at line.now text.now at }
 {

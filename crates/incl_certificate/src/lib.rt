@@ -5,15 +5,15 @@
 mod certificate;
 mod checking;
 mod downward;
+mod inclusion_reading;
 mod joint;
 mod laws;
 mod printing;
-mod inclusion_reading;
-mod tree_reading;
 mod reading;
-#[cfg(test)]
-mod tests;
 mod tree;
+mod tree_reading;
+mod undecided_reading;
+mod up_trail;
 mod upward;
 
 pub use certificate::{Certificate, fits};

@@ -2,13 +2,15 @@
 
 ghost use Rattle.std.specs.Prelude.{◌≡◌, ◌<◌, All, IfOk, length};
 ghost use Rattle.tree_definitions.specs.Cover.{FitsPair};
+ghost use Rattle.entry_lines.specs.Fitting.{AreUpEntries};
 ghost use Rattle.incl_certificate.specs.Certificates.{Fits};
-ghost use Rattle.incl_certificate.specs.Text.{answer_line, certificate_text, down_text, kind_line, tree_text, up_text};
+ghost use Rattle.incl_certificate.specs.Text.{answer_line, certificate_text, down_text, kind_line, tree_text, up_text, up_trail_text};
 
 use crate::certificate::Certificate;
 use bit_matrix::Matrix;
 use certificate_lines::{put_pairs, put_relation};
-use listed_pairs::Pair;
+use entry_lines::put_up_entries;
+use listed_pairs::{Pair, UpEntry};
 use std::alloc::{AllocError, Global};
 use ta_model::Listed;
 use witness_trees::Nodes;
@@ -67,6 +69,28 @@ fn print_down(
     Ok(text)
 }
 
+#[tactic(auto, unfolding(crate::specs::Text::up_trail_text))]
+fn print_up_trail(
+    alloc: Global,
+    a: &Listed,
+    b: &Listed,
+    left: &Matrix,
+    right: &Matrix,
+    budget: u64,
+    entries: &[UpEntry],
+) -> Result<Vec<u8>, AllocError>
+    requires { AreUpEntries a.now b.now budget entries.now }
+    ensures { IfOk result (λ text. text.items ≡ up_trail_text a.now b.now left.now right.now budget entries.now) }
+{
+    let mut text = Vec::new(alloc);
+    text.extend_from_slice(b"undecided\n")?;
+    text.extend_from_slice(b"certificate 1 up-trail\n")?;
+    put_relation(&mut text, b"left", left)?;
+    put_relation(&mut text, b"right", right)?;
+    put_up_entries(&mut text, a, b, budget as u32, entries)?;
+    Ok(text)
+}
+
 fn print_tree(alloc: Global, nodes: &Nodes) -> Result<Vec<u8>, AllocError>
     requires { 0 < length nodes.now.rows }
     ensures { IfOk result (λ text. text.items ≡ tree_text nodes.now) }
@@ -88,5 +112,11 @@ pub fn print(alloc: Global, a: &Listed, b: &Listed, c: &Certificate) -> Result<V
         Certificate::Up { left, right, pairs } => print_up(alloc, a, b, left, right, pairs),
         Certificate::Down { both, pairs } => print_down(alloc, a, b, both, pairs),
         Certificate::Tree { nodes } => print_tree(alloc, nodes),
+        Certificate::UpTrail {
+            left,
+            right,
+            budget,
+            entries,
+        } => print_up_trail(alloc, a, b, left, right, *budget, entries),
     }
 }

@@ -7,6 +7,7 @@ ghost use Rattle.incl_certificate.specs.Text.{Reads, certificate_text, judged_ce
 use crate::certificate::Certificate;
 use crate::inclusion_reading::read_included;
 use crate::tree_reading::read_tree;
+use crate::undecided_reading::read_undecided;
 use std::alloc::Global;
 use ta_model::Listed;
 use thiserror::Error;
@@ -34,6 +35,9 @@ pub fn read(alloc: Global, text: &[u8], a: &Listed, b: &Listed) -> Result<Certif
 {
     if text.starts_with(b"included\n") {
         return read_included(alloc, text, a, b);
+    }
+    if text.starts_with(b"undecided\n") {
+        return read_undecided(alloc, text, a, b);
     }
     match read_tree(alloc, text, a, b) {
         Ok(nodes) => Ok(Certificate::Tree { nodes }),

@@ -5,8 +5,6 @@
 
 mod classes;
 mod merge;
-#[cfg(test)]
-mod tests;
 
 ghost use Rattle.std.specs.Prelude.{IfOk, IsErrOf};
 ghost use Rattle.tree_definitions.specs.Language.{SameLanguage};

@@ -4,8 +4,6 @@
 mod cluster;
 mod clusters;
 mod group;
-#[cfg(test)]
-mod tests;
 
 pub use clusters::Clusters;
 pub use group::copied;

@@ -1,1 +1,2 @@
 pub mod StillListed
+pub mod Interning

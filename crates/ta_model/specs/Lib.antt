@@ -3,3 +3,5 @@ pub mod Tuples
 pub mod Classes
 pub mod Restriction
 pub mod Pairing
+pub mod Macrostates
+pub mod UpGroups

@@ -1,15 +1,20 @@
 //! Two automata in an encoding.
 
-ghost use Rattle.std.specs.Prelude.{◌≡◌, ℕ, ◌↔◌, IsTrue, IfOk, length};
+ghost use Rattle.std.specs.Prelude.{◌≡◌, ◌<◌, ℕ, ◌↔◌, All, IsTrue, IfOk, length, map};
 ghost use Rattle.tree_definitions.specs.Automaton.{Automaton, IsFinal, IsState};
 ghost use Rattle.tree_definitions.specs.Canonical.{canon};
 ghost use Rattle.tree_definitions.specs.Joint.{JointRule, joint_symbols};
 ghost use Rattle.tree_definitions.specs.Union.{IsUnion};
 ghost use Rattle.ta_model.specs.Listing.{IsListed};
 ghost use Rattle.ta_model.specs.Classes.{AreClasses};
+ghost use Rattle.ta_model.specs.Macrostates.{StoreGrows, row_at};
 ghost use Rattle.ta_model.specs.Pairing.{ArePaired, IsJointState};
+ghost use Rattle.ta_model.specs.Tuples.{kids_of};
+ghost use Rattle.ta_model.specs.UpGroups.{AreUpGroups, HasKidsWith};
 
 use crate::listed::Listed;
+use crate::macrostates::MacroStore;
+use crate::rule::Kids;
 use crate::symbol::Symbol;
 use crate::table::{Class, Table};
 use std::alloc::AllocError;
@@ -20,6 +25,15 @@ pub enum PairError {
     /// Together they have more than 65,535 symbols.
     Symbols,
     Memory,
+}
+
+/// Under one symbol, which is given by its place, the parents to which some children lead, and the
+/// number of the set to which some sets lead.
+#[derive(Debug, Drop)]
+pub struct UpGroup {
+    pub symbol: u32,
+    pub parents: Vec<u32>,
+    pub set: usize,
 }
 
 /// Two automata, the left and the right one, over one list of symbols: those of the left, then
@@ -69,6 +83,32 @@ pub trait Joint {
         ensures { IfOk result (λ v. AreClasses
             (joint_symbols (left self.now).symbols (right self.now).symbols)
             (JointRule (left self.now) (right self.now)) x y v.items) };
+
+    /// The distinct child tuples of the left rules in which the left state q stands as a child.
+    fn kids_with(&self, q: u32) -> Result<Vec<Kids>, AllocError>
+        requires { IsState (left self.now) q }
+        ensures { IfOk result (λ v. HasKidsWith (left self.now) q (kids_of v.items)) };
+
+    /// The groups of left children and as many sets of right states: for each symbol under which
+    /// some left rule has the children one with all its parents, and with the number of the set of
+    /// the parents of the right rules under it whose children are in the sets. New sets are
+    /// appended to the store.
+    fn up_groups(
+        &mut self,
+        kids: &[u32],
+        sets: &[usize],
+        store: &mut MacroStore,
+    ) -> Result<Vec<UpGroup>, AllocError>
+        requires kids { All (IsState (left self.old)) kids.now }
+        requires many { length sets.now ≡ length kids.now }
+        requires states { store.old.states ≡ length (right self.old).states }
+        requires sets { All (λ k. k < length store.old.rows) sets.now }
+        ensures left { left self.new ≡ left self.old }
+        ensures right { right self.new ≡ right self.old }
+        ensures nodes { nodes self.new ≡ nodes self.old }
+        ensures grows { StoreGrows store.old store.new }
+        ensures groups { IfOk result (λ v. AreUpGroups (left self.old) (right self.old)
+            kids.now (map (row_at store.old) sets.now) store.new v.items) };
 
     /// The union of the two.
     fn joined(&self) -> Result<Self::One, AllocError>

@@ -4,6 +4,7 @@
 
 mod joint;
 mod listed;
+mod macrostates;
 mod name;
 mod rule;
 mod symbol;
@@ -12,8 +13,9 @@ mod table;
 mod tests;
 mod tuples;
 
-pub use joint::{Joint, PairError};
+pub use joint::{Joint, PairError, UpGroup};
 pub use listed::Listed;
+pub use macrostates::MacroStore;
 pub use name::{Name, NameError};
 pub use rule::{Kids, Rule};
 pub use symbol::Symbol;

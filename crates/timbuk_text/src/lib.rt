@@ -9,8 +9,6 @@ mod scan;
 mod table;
 mod tables;
 mod taking;
-#[cfg(test)]
-mod tests;
 
 pub use error::{Counted, TextError};
 pub use printer::print;

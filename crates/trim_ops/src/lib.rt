@@ -9,8 +9,6 @@ mod marking;
 mod ops;
 mod reach;
 mod spread;
-#[cfg(test)]
-mod tests;
 
 pub use index::{RuleIndex, rules_by_child, rules_by_parent};
 pub use ops::{reachable, trim, useful};

@@ -15,8 +15,6 @@ mod finals;
 mod sorted_rules;
 mod step_index;
 mod stepping;
-#[cfg(test)]
-mod tests;
 mod trail;
 mod upward;
 

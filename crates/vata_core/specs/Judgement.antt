@@ -10,7 +10,7 @@ use Rattle.incl_certificate.specs.Checked.{FailsFirst, Holds}
 use Rattle.incl_certificate.specs.Text.{certificate_text}
 use Rattle.incl_certificate.specs.declared.certificate.Certificate.{Certificate}
 use Rattle.incl_certificate.specs.declared.checking.Verdict.{Verdict}
-use Rattle.incl_certificate.specs.declared.checking.Verdict.TheVariants.{Included, NotIncluded}
+use Rattle.incl_certificate.specs.declared.checking.Verdict.TheVariants.{Included, NotIncluded, Undecided}
 use Rattle.incl_certificate.specs.declared.checking.CheckError.TheVariants.{Fails}
 use Rattle.vata_core.specs.CheckRequest.{CheckRequest, automata_of}
 use Rattle.vata_core.specs.Files.{AreSpelled, Told}
@@ -33,6 +33,7 @@ IsJudgement A B c (Refused condition place) = FailsFirst A B c (Fails condition 
 unfoldable pub accepted_line : Verdict → List ℕ
 accepted_line Included = codes "accepted: included\n"
 accepted_line NotIncluded = codes "accepted: not included\n"
+accepted_line Undecided = codes "accepted: undecided\n"
 
 unfoldable pub refused_line : ℕ → ℕ → List ℕ
 refused_line condition place = codes "refused: condition " ++ decimal condition ++ codes " place " ++ decimal place ++ codes "\n"

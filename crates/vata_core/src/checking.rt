@@ -30,6 +30,7 @@ fn accepted(verdict: Verdict) -> &'static [u8]
     match verdict {
         Verdict::Included => b"accepted: included\n".as_slice(),
         Verdict::NotIncluded => b"accepted: not included\n".as_slice(),
+        Verdict::Undecided => b"accepted: undecided\n".as_slice(),
     }
 }
 

@@ -10,6 +10,12 @@ const ALL2: &[u8] =
 
 const ONLY: &[u8] = b"Ops a:0\nAutomaton only\nStates r\nFinal States r\nTransitions\na -> r\n";
 
+const AB: &[u8] =
+    b"Ops a:0 b:0\nAutomaton ab\nStates p r\nFinal States p r\nTransitions\na -> p\nb -> r\n";
+
+const X1: &[u8] =
+    b"Ops a:0 b:0\nAutomaton x1\nStates x\nFinal States x\nTransitions\na -> x\nb -> x\n";
+
 /// Two states that the same leaf reaches, of which one is final.
 const FINAL: &[u8] = b"Ops a:0 Automaton fin States q r Final States r Transitions a -> q a -> r";
 
@@ -224,6 +230,97 @@ fn downward_certificates_are_judged(rt: HostRuntime) {
             4,
             b"".as_slice(),
             b"syntax: file 3 at 28\n".as_slice(),
+        ),
+    ] {
+        let ran = run_check(&rt, alloc, "a b c", over(a, b, certificate));
+        ended(&rt, name, &ran, status, out, diag);
+    }
+}
+
+#[test]
+fn upward_trails_are_judged(rt: HostRuntime) {
+    let alloc = rt.alloc();
+    for (name, a, b, certificate, status, out, diag) in [
+        (
+            "two leaves",
+            AB,
+            X1,
+            b"undecided\ncertificate 1 up-trail\nleft identity\nright identity\nbudget 1\nentries 2\np : x : a\nr : x : b\n".as_slice(),
+            0,
+            b"accepted: undecided\n".as_slice(),
+            b"".as_slice(),
+        ),
+        (
+            "the other order",
+            AB,
+            X1,
+            b"undecided\ncertificate 1 up-trail\nleft identity\nright identity\nbudget 1\nentries 2\nr : x : b\np : x : a\n".as_slice(),
+            0,
+            b"accepted: undecided\n".as_slice(),
+            b"".as_slice(),
+        ),
+        (
+            "no rule to the state",
+            AB,
+            X1,
+            b"undecided\ncertificate 1 up-trail\nleft identity\nright identity\nbudget 1\nentries 2\np : x : b\nr : x : b\n".as_slice(),
+            1,
+            b"refused: condition 8 place 1\n".as_slice(),
+            b"".as_slice(),
+        ),
+        (
+            "not all states of the step",
+            AB,
+            X1,
+            b"undecided\ncertificate 1 up-trail\nleft identity\nright identity\nbudget 1\nentries 2\np : x : a\nr : : b\n".as_slice(),
+            1,
+            b"refused: condition 8 place 2\n".as_slice(),
+            b"".as_slice(),
+        ),
+        (
+            "a pair that rejects",
+            AB,
+            ONLY,
+            b"undecided\ncertificate 1 up-trail\nleft identity\nright identity\nbudget 1\nentries 2\np : r : a\nr : : b\n".as_slice(),
+            1,
+            b"refused: condition 9 place 2\n".as_slice(),
+            b"".as_slice(),
+        ),
+        (
+            "an entry twice",
+            AB,
+            X1,
+            b"undecided\ncertificate 1 up-trail\nleft identity\nright identity\nbudget 1\nentries 2\np : x : a\np : x : a\n".as_slice(),
+            1,
+            b"refused: condition 10 place 2\n".as_slice(),
+            b"".as_slice(),
+        ),
+        (
+            "three entries for a budget of 1",
+            AB,
+            X1,
+            b"undecided\ncertificate 1 up-trail\nleft identity\nright identity\nbudget 1\nentries 3\np : x : a\nr : x : b\n".as_slice(),
+            4,
+            b"".as_slice(),
+            b"syntax: file 3 at 71\n".as_slice(),
+        ),
+        (
+            "an unknown symbol",
+            AB,
+            X1,
+            b"undecided\ncertificate 1 up-trail\nleft identity\nright identity\nbudget 1\nentries 2\np : x : c\nr : x : b\n".as_slice(),
+            4,
+            b"".as_slice(),
+            b"name: file 3 at 89\n".as_slice(),
+        ),
+        (
+            "a trail of another kind",
+            AB,
+            X1,
+            b"undecided\ncertificate 1 up\n".as_slice(),
+            4,
+            b"".as_slice(),
+            b"syntax: file 3 at 10\n".as_slice(),
         ),
     ] {
         let ran = run_check(&rt, alloc, "a b c", over(a, b, certificate));

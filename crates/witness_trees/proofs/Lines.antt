@@ -52,14 +52,14 @@ kid_same k n small = elim (cases_lt 4294967296 n) [
   | inr low ↦ let e : capped n ≡ n = omega arith in ap (λ m. nat_le 1 m && nat_le m k) e
 ]
 
-kids_same : (k : ℕ) → k < 4294967295 → (ns : List ℕ) → list_all (λ n. nat_le 1 n && nat_le n k) (map capped ns) ≡ list_all (λ n. nat_le 1 n && nat_le n k) ns
+pub kids_same : (k : ℕ) → k < 4294967295 → (ns : List ℕ) → list_all (λ n. nat_le 1 n && nat_le n k) (map capped ns) ≡ list_all (λ n. nat_le 1 n && nat_le n k) ns
 kids_same k small [] = refl
 kids_same k small (n ∷ ns) = ap₂ ◌&&◌ (kid_same k n small) (kids_same k small ns)
 
 order_same : (k : ℕ) (w : Written) → k < 4294967295 → is_in_order k (capped_line w) ≡ is_in_order k w
 order_same k w small = ap₂ ◌&&◌ (number_same k w.number small) (kids_same k small w.kids)
 
-places_same : (k : ℕ) → k < 4294967295 → (ns : List ℕ) → list_all (λ n. nat_le 1 n && nat_le n k) ns ≡ true → map (λ n. n - 1) (map capped ns) ≡ map (λ n. n - 1) ns
+pub places_same : (k : ℕ) → k < 4294967295 → (ns : List ℕ) → list_all (λ n. nat_le 1 n && nat_le n k) ns ≡ true → map (λ n. n - 1) (map capped ns) ≡ map (λ n. n - 1) ns
 places_same k small [] h = refl
 places_same k small (n ∷ ns) h =
     let both = and_parts (nat_le 1 n && nat_le n k) (list_all (λ n. nat_le 1 n && nat_le n k) ns) h in
@@ -127,7 +127,7 @@ small_kids k small (n ∷ ns) h =
     let low : n ≤ k = leb-true n k (and_parts (nat_le 1 n) (nat_le n k) both.0).1 in
     All-cons (λ n. n ≤ 4294967295) n ns (omega arith) (small_kids k small ns both.1)
 
-earlier_kids : (k : ℕ) (ns : List ℕ) → list_all (λ n. nat_le 1 n && nat_le n k) ns ≡ true → All (λ j. j < k) (map (λ n. n - 1) ns)
+pub earlier_kids : (k : ℕ) (ns : List ℕ) → list_all (λ n. nat_le 1 n && nat_le n k) ns ≡ true → All (λ j. j < k) (map (λ n. n - 1) ns)
 earlier_kids k [] h = All-nil (λ j. j < k)
 earlier_kids k (n ∷ ns) h =
     let both = and_parts (nat_le 1 n && nat_le n k) (list_all (λ n. nat_le 1 n && nat_le n k) ns) h in

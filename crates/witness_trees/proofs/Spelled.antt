@@ -74,10 +74,10 @@ pub number_free : (c : ℕ) → is_digit c ≡ false → (n : ℕ) → n < 2 ^ 6
 number_free c bad n h = free_of is_digit c bad (decimal n) (decimal_digits n h)
 
 -- words with commas between them
-one_piece : (c : ℕ) (word : List ℕ) → IsFree c word → pieces_at c word ≡ word ∷ []
+pub one_piece : (c : ℕ) (word : List ℕ) → IsFree c word → pieces_at c word ≡ word ∷ []
 one_piece c word free = slice_split_none (λ b. b == c) word (All-from_recursion _ word free)
 
-next_piece : (c : ℕ) (word more : List ℕ) → IsFree c word → pieces_at c (word ++ c ∷ more) ≡ word ∷ pieces_at c more
+pub next_piece : (c : ℕ) (word more : List ℕ) → IsFree c word → pieces_at c (word ++ c ∷ more) ≡ word ∷ pieces_at c more
 next_piece c word more free = slice_split_at (λ b. b == c) word c more (All-from_recursion _ word free) (eq-eqb c c refl)
 
 -- numbers that fit 64 bits
@@ -165,11 +165,11 @@ place_back (x ∷ xs) (suc i) a apart at =
     ap (λ t. cond t (Some 0) (option_map suc (place_in xs a.name a.rank))) (no_test x a other)
     ∙ ap (option_map suc) (place_back xs i a (λ p q d lt in_range. apart (suc p) (suc q) d (omega arith) (omega arith)) at)
 
-suc_within : (k : ℕ) (ks : List ℕ) → AllByRecursion (λ j. j < k) ks → list_all (λ n. nat_le 1 n && nat_le n k) (map suc ks) ≡ true
+pub suc_within : (k : ℕ) (ks : List ℕ) → AllByRecursion (λ j. j < k) ks → list_all (λ n. nat_le 1 n && nat_le n k) (map suc ks) ≡ true
 suc_within k [] h = refl
 suc_within k (j ∷ ks) h = and_both _ _ (and_both _ _ (le-leb 1 (suc j) (omega arith)) (le-leb (suc j) k (omega (arith, h.0)))) (suc_within k ks h.1)
 
-pred_suc : (ks : List ℕ) → map (λ n. n - 1) (map suc ks) ≡ ks
+pub pred_suc : (ks : List ℕ) → map (λ n. n - 1) (map suc ks) ≡ ks
 pred_suc [] = refl
 pred_suc (k ∷ ks) = ap₂ (λ m ms. m ∷ ms) (omega arith) (pred_suc ks)
 

@@ -10,7 +10,7 @@ use std::alloc::{AllocError, Global};
 use ta_model::Symbol;
 
 /// The number in decimal.
-fn put_number(out: &mut Vec<u8>, n: u64) -> Result<(), AllocError>
+pub fn put_number(out: &mut Vec<u8>, n: u64) -> Result<(), AllocError>
     ensures { OnOk result (out.new.items ≡ out.old.items ++ decimal n) }
 {
     let number = n.to_string(*out.allocator())?;
@@ -28,7 +28,8 @@ fn put_other_kids(out: &mut Vec<u8>, kids: &[u32]) -> Result<(), AllocError>
     Ok(())
 }
 
-fn put_kids(out: &mut Vec<u8>, kids: &[u32]) -> Result<(), AllocError>
+/// The numbers of the children, as `(1,2)`, and nothing where there is none.
+pub fn put_kids(out: &mut Vec<u8>, kids: &[u32]) -> Result<(), AllocError>
     ensures { OnOk result (out.new.items ≡ out.old.items ++ kids_text kids.now) }
 {
     let Some((first, others)) = kids.split_first() else {

@@ -153,7 +153,7 @@ fn name_of(alloc: Global, at: u64, bytes: &[u8]) -> Result<Name, NodesTextError>
 
 /// A name, and the children where there are some.
 #[tactic(auto, unfolding(crate::specs::Judged::call_in))]
-fn call_of(alloc: Global, at: u64, bytes: &[u8]) -> Result<(Name, Vec<u64>), NodesTextError>
+pub fn call_of(alloc: Global, at: u64, bytes: &[u8]) -> Result<(Name, Vec<u64>), NodesTextError>
     ensures { Spells {Y = List ℕ × List ℕ} at (λ c. (c.0, c.1.items)) result
         (option_map capped_call (call_in bytes.now)) }
 {
@@ -205,7 +205,8 @@ fn are_in_order(k: usize, line: &Line) -> bool
     line.number == k as u64 + 1 && are_within(k, &line.kids)
 }
 
-fn are_within(k: usize, numbers: &[u64]) -> bool
+/// Whether each number is one of 1 to k. Takes no memory.
+pub fn are_within(k: usize, numbers: &[u64]) -> bool
     ensures { result ≡ list_all (λ n. nat_le 1 n && nat_le n k) numbers.now }
 {
     numbers.iter().all(|n| 1 <= *n && *n <= k as u64)

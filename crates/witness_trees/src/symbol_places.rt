@@ -16,7 +16,7 @@ use ta_model::{Name, Symbol};
 ///
 /// The symbols are looked up by a hash of their bytes (SipHash with a fixed key).
 #[derive(Drop)]
-pub(crate) struct SymbolPlaces {
+pub struct SymbolPlaces {
     symbols: IndexSet<Symbol, BuildHasherDefault<DefaultHasher>>,
 }
 
@@ -61,7 +61,7 @@ impl SymbolPlaces {
     }
 
     /// The symbols of a list of distinct ones, in its order.
-    pub(crate) fn of(alloc: Global, symbols: &[Symbol]) -> Result<SymbolPlaces, AllocError>
+    pub fn of(alloc: Global, symbols: &[Symbol]) -> Result<SymbolPlaces, AllocError>
         requires distinct { AllPairs ◌≢◌ symbols.now }
         requires few { length symbols.now < 4294967295 }
         ensures { IfOk result (λ p. p ≡ symbols.now) }
@@ -94,7 +94,7 @@ impl SymbolPlaces {
     }
 
     /// The place of the symbol with this name and rank.
-    pub(crate) fn find_called(&self, name: Name, rank: usize) -> Option<u32>
+    pub fn find_called(&self, name: Name, rank: usize) -> Option<u32>
         ensures { result ≡ place_in self.now name rank }
     {
         // No symbol takes more children than a byte counts.

@@ -1,9 +1,11 @@
-use Rattle.std.proofs.Common.{◌≡◌, ◌∙◌, ◌++◌, ◌∷◌, [], map, take, ap, sym, subst}
+use Rattle.std.proofs.Common.{◌≡◌, ◌≢◌, ◌∙◌, ◌++◌, ◌∷◌, [], map, take, ap, sym, subst}
 use Rattle.std.proofs.lemmas.List.{take_all}
+use Rattle.std.specs.Prelude.{AllPairs}
 use Rattle.std.specs.List.Sorted.{IsNonDecreasingBy}
 use Rattle.explicit_ta.specs.Index.{AreLeads}
 use Rattle.explicit_ta.proofs.Indexing.{lead_of, leads_are, leads_rise}
 use Rattle.explicit_ta.proofs.Lists.{map_more}
+use Rattle.explicit_ta.proofs.Stepping.{leads_apart}
 use Rattle.explicit_ta.proofs.upward.leads.Goals as goal
 
 pub loop-rule-preserved : goal.loop-rule-preserved
@@ -24,3 +26,8 @@ pub returns-clause-rising : goal.returns-clause-rising
 returns-clause-rising c =
     subst (IsNonDecreasingBy (λ x. x.0)) (sym (c.loop-rule.invariant ∙ ap (map lead_of) (take_all c.loop-rule.rule-index c.at-rule-items.result.now c.loop-rule-test.false)))
     (leads_rise c.at-rule-items.result.now c.at-rule-items.ensures.rising)
+
+pub returns-clause-distinct : goal.returns-clause-distinct
+returns-clause-distinct c apart =
+    subst (AllPairs ◌≢◌) (sym (c.loop-rule.invariant ∙ ap (map lead_of) (take_all c.loop-rule.rule-index c.at-rule-items.result.now c.loop-rule-test.false)))
+    (leads_apart c.args.kids.now c.at-rule-items.result.now (λ r m. ((c.at-rule-items.ensures.members r).0 m).1) (c.at-rule-items.ensures.distinct apart))

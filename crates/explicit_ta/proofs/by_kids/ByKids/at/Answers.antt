@@ -5,6 +5,7 @@ use Rattle.std.proofs.lemmas.List.Sorted.{IsNonDecreasingBy-drop, IsPartitionPoi
 use Rattle.tree_definitions.specs.Automaton.{Rule}
 use Rattle.explicit_ta.specs.Index.{children_cmp}
 use Rattle.explicit_ta.proofs.Children.{is_before, is_up_to, parted_before, parted_up_to, rank_at, ranks_rise, symbols_rise, with_children}
+use Rattle.explicit_ta.proofs.Stepping.{apart_part}
 use Rattle.explicit_ta.proofs.by_kids.ByKids.at.Goals as goal
 
 pub returns : goal.returns
@@ -32,4 +33,5 @@ returns c =
     rw (part, ← c.self.view_is) (record {
       members = members;
       rising = symbols_rise items kids from to sorted (λ r m. ((members r).0 m).1);
+      distinct = λ apart. apart_part items from to apart;
     })

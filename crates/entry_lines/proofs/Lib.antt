@@ -1,0 +1,5 @@
+pub mod Spans
+pub mod Judging
+pub mod Printed
+pub mod ReadBack
+pub mod Inverse

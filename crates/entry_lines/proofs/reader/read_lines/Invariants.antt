@@ -1,0 +1,7 @@
+use Rattle.entry_lines.specs.Entries.{entry_in}
+use Rattle.certificate_lines.proofs.Reading.{IsReadTo}
+use Rattle.entry_lines.proofs.reader.read_lines.Given as goal
+
+-- the entries so far, and what is said of the rest is said of all
+abbrev pub invariant-loop-i : goal.invariant-loop-i
+invariant-loop-i l = IsReadTo (entry_in l.a l.b) l.text l.due l.fn.from l._i l.at l.entries.items
