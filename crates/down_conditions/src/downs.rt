@@ -12,7 +12,7 @@ use ta_model::{Listed, Rule, Symbol};
 use trim_ops::RuleIndex;
 
 /// For each symbol, given by its place, the places of the rules with it.
-pub(crate) fn rules_by_symbol(
+pub fn rules_by_symbol(
     alloc: Global,
     rules: &[Rule],
     symbols: usize,
@@ -55,7 +55,7 @@ fn rules_to(alloc: Global, b: &Listed, list: &[u32], set: &Row) -> Result<Vec<u3
 }
 
 /// The rules of B under the symbol whose parent is in the set, none where B lacks the symbol.
-pub(crate) fn downs(
+pub fn downs(
     alloc: Global,
     b: &Listed,
     alphabet: &Alphabet,

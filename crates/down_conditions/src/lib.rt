@@ -8,12 +8,12 @@ mod apart;
 mod between;
 mod by_state;
 mod choices;
-mod downs;
+pub mod downs;
 mod downward;
 mod finals;
 mod order;
 mod search;
-mod shift;
+pub mod shift;
 
 pub use apart::first_covered;
 pub use choices::first_refuted;

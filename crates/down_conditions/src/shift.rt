@@ -10,7 +10,7 @@ use listed_pairs::Pair;
 use std::alloc::{AllocError, Global};
 
 /// The set with each member m places further on, as a row of n places.
-pub(crate) fn shifted_row(alloc: Global, set: &Row, m: usize, n: usize) -> Result<Row, AllocError>
+pub fn shifted_row(alloc: Global, set: &Row, m: usize, n: usize) -> Result<Row, AllocError>
     requires { m + length set.now ≤ n }
     ensures long { IfOk result (λ row. length row ≡ n) }
     ensures members { IfOk result (λ row. (s : ℕ) → Has row s ↔ Shifted m (Has set.now) s) }

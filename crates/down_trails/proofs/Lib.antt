@@ -1,0 +1,4 @@
+mod Alike
+mod Rising
+mod Splitting
+mod Stepping

@@ -1,0 +1,32 @@
+use Rattle.std.proofs.Common.{◌≡◌, true, false, sym, ◌∙◌, arith}
+use Rattle.std.proofs.lemmas.Option.{slice_get_within}
+use Rattle.tree_definitions.specs.DownTrail.{DownEntry, IsDownStep}
+use Rattle.tree_definitions.proofs.Members.{at_within}
+use Rattle.listed_pairs.specs.DownEntries.{entries_of}
+use Rattle.down_trails.proofs.Splitting.{length_entries}
+use Rattle.down_trails.proofs.Stepping.{all_at_next, first_not}
+use Rattle.down_trails.proofs.steps.first_wrong_entry.Goals as goal
+
+pub returns-then-not-branch-clause-some : goal.returns-then-not-branch-clause-some
+returns-then-not-branch-clause-some c =
+    let all = entries_of c.args.entries.now in
+    let i = c.loop-at.at in
+    let long = length_entries c.args.entries.now in
+    let x = at_within all i (omega (arith, long, c.loop-at-test.true)) in
+    first_not all (λ k (e : DownEntry). IsDownStep c.args.a.now c.args.b.now all k e) i x.0 c.loop-at.invariant x.1
+    (λ h. let b : true ≡ false = sym ((c.in_ok-is_step.ensures x.0 x.1).1 h) ∙ c.if-not-branch.true in cc)
+
+pub loop-at-preserved : goal.loop-at-preserved
+loop-at-preserved c =
+    let all = entries_of c.args.entries.now in
+    let i = c.loop-at.at in
+    let long = length_entries c.args.entries.now in
+    let x = at_within all i (omega (arith, long, c.loop-at-test.true)) in
+    all_at_next all (λ k (e : DownEntry). IsDownStep c.args.a.now c.args.b.now all k e) i x.0 c.loop-at.invariant x.1
+    ((c.in_ok-is_step.ensures x.0 x.1).0 c.if-not-branch.false)
+
+pub returns-clause-none : goal.returns-clause-none
+returns-clause-none c i entry at =
+    let long = length_entries c.args.entries.now in
+    let w = slice_get_within (entries_of c.args.entries.now) i entry at in
+    c.loop-at.invariant i entry (omega (arith, w, long, c.loop-at-test.false)) at
