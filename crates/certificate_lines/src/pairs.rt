@@ -117,7 +117,11 @@ fn names_of(alloc: Global, at: u64, words: &[&[u8]]) -> Result<Vec<Name>, NodesT
 }
 
 /// The names of a pair's state and of its members.
-pub fn spelled_of(alloc: Global, at: u64, words: &[&[u8]]) -> Result<(Name, Vec<Name>), NodesTextError>
+pub fn spelled_of(
+    alloc: Global,
+    at: u64,
+    words: &[&[u8]],
+) -> Result<(Name, Vec<Name>), NodesTextError>
     ensures { Spells {Y = List ℕ × List (List ℕ)} at (λ r. (r.0, r.1.items)) result (spelled_words (map (λ x. x.now) words.now)) }
 {
     let [state, colon, members @ ..] = words else {

@@ -4,8 +4,8 @@ ghost use Rattle.std.specs.Prelude.{◌≡◌, ◌≢◌, ◌<◌, ◌≤◌, []
 ghost use Rattle.tree_definitions.specs.Automaton.{FitsRule};
 ghost use Rattle.tree_definitions.specs.Name.{IsName};
 
-use explicit_ta::{Explicit, ExplicitPair};
 use bit_rows::Row;
+use explicit_ta::{Explicit, ExplicitPair};
 use smallvec::SmallVec;
 use std::alloc::{AllocError, Global};
 use std::process::Abort;

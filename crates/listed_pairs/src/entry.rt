@@ -24,9 +24,15 @@ impl Model for UpEntry {
 #[derive(Debug, Drop)]
 pub enum DownEntry {
     /// A pair to begin with.
-    Root { pair: Pair },
+    Root {
+        pair: Pair,
+    },
     /// The pair of a child: the place of an earlier split, and of the child in its rule.
-    Child { pair: Pair, split: u32, place: u8 },
+    Child {
+        pair: Pair,
+        split: u32,
+        place: u8,
+    },
     /// A split of an earlier pair: the place of its entry, that of a rule of A to its state, and the
     /// place of a child for each tuple.
     Split {
