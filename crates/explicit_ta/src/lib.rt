@@ -14,3 +14,6 @@ mod upward;
 
 pub use explicit::Explicit;
 pub use pair::ExplicitPair;
+
+#[cfg(test)]
+mod tests;

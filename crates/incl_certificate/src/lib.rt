@@ -21,3 +21,6 @@ pub use checking::{CheckError, Verdict, check};
 pub use laws::printed_certificates_are_read_back;
 pub use printing::print;
 pub use reading::{CertError, read};
+
+#[cfg(test)]
+mod tests;

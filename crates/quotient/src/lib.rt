@@ -58,3 +58,6 @@ pub fn reduce<T: Table>(alloc: Global, t: &T) -> Result<Listed, ReduceError>
     let merged = collapse(alloc, &list, &below)?;
     Ok(merged)
 }
+
+#[cfg(test)]
+mod tests;

@@ -7,3 +7,6 @@ mod group;
 
 pub use clusters::Clusters;
 pub use group::copied;
+
+#[cfg(test)]
+mod tests;

@@ -13,3 +13,6 @@ mod taking;
 pub use error::{Counted, TextError};
 pub use printer::print;
 pub use reader::Reader;
+
+#[cfg(test)]
+mod tests;
