@@ -1,3 +1,4 @@
+pub mod BudgetLines
 pub mod Digits
 pub mod Identity
 pub mod Judging
@@ -15,6 +16,8 @@ pub mod Reading
 pub mod RelationBack
 pub mod RelationInverse
 pub mod Sets
+pub mod Spaced
+pub mod Spans
 pub mod Starts
 pub mod Verdicts
 pub mod Worded

@@ -3,3 +3,4 @@ pub mod Relations
 pub mod Pairs
 pub mod Telling
 pub mod PairsRead
+pub mod Budgets

@@ -3,9 +3,10 @@
 //! A relation of the name `left`, say, is the line `left identity`, or the line `left rows` and a
 //! line of hexadecimal digits for each state. Pairs are a line `pairs N` and a line `q : s1 s2` for
 //! each pair. Each text is printed and read back; what reading refuses, and where, is said by
-//! `relation_in` and `pairs_in` in `specs`.
+//! `relation_in` and `pairs_in` in `specs`. Trails share the lines of their budget (`budgets`).
 #![tactic(auto)]
 
+pub mod budgets;
 mod names;
 mod pair_laws;
 pub mod pairs;

@@ -21,7 +21,8 @@ use ta_model::{Listed, Name, NameError};
 use witness_trees::NodesTextError;
 use witness_trees::reader::{mark_place, pieces, value_of, writes_number};
 
-fn put_name(out: &mut Vec<u8>, names: &[Name], place: usize) -> Result<(), AllocError>
+/// The name at this place.
+pub fn put_name(out: &mut Vec<u8>, names: &[Name], place: usize) -> Result<(), AllocError>
     requires { place < length names.now }
     ensures { OnOk result (out.new.items ≡ out.old.items ++ state_name names.now place) }
 {
@@ -87,7 +88,8 @@ pub fn put_pairs(
     Ok(())
 }
 
-fn name_of(alloc: Global, at: u64, bytes: &[u8]) -> Result<Name, NodesTextError>
+/// The name that the bytes are.
+pub fn name_of(alloc: Global, at: u64, bytes: &[u8]) -> Result<Name, NodesTextError>
     ensures { Spells at (λ n. n) result (if is_name bytes.now then Some bytes.now else None) }
 {
     match Name::of(alloc, bytes) {
@@ -98,7 +100,7 @@ fn name_of(alloc: Global, at: u64, bytes: &[u8]) -> Result<Name, NodesTextError>
 }
 
 /// The names that the words are.
-fn names_of(alloc: Global, at: u64, words: &[&[u8]]) -> Result<Vec<Name>, NodesTextError>
+pub fn names_of(alloc: Global, at: u64, words: &[&[u8]]) -> Result<Vec<Name>, NodesTextError>
     ensures { Spells at (λ v. v.items) result (spelled_names (map (λ x. x.now) words.now)) }
 {
     let Ok(mut names) = Vec::with_capacity(alloc, words.len()) else {

@@ -1,4 +1,4 @@
 mod Alike
 mod Rising
-mod Splitting
-mod Stepping
+pub mod Splitting
+pub mod Stepping

@@ -1,12 +1,9 @@
 -- What is read as a budget and entries is the printed text of these.
-use Rattle.std.proofs.Common.{◌≡◌, true, ℕ, zero, suc, ◌+◌, ◌-◌, ◌≤◌, ◌&&◌, List, [], ◌∷◌, ◌++◌, length, length-append, drop, Option, Some, None, refl, sym, ap, ap₂, ◌∙◌, subst, append_assoc, append-nil, arith}
-use Rattle.std.specs.Prelude.{All, IfOk, Ok, Err, nat_le, nat_eq, codes}
+use Rattle.std.proofs.Common.{◌≡◌, true, ℕ, zero, suc, ◌+◌, ◌-◌, ◌≤◌, ◌&&◌, List, [], ◌∷◌, ◌++◌, length, drop, Option, Some, None, refl, sym, ap, ◌∙◌, subst, arith}
+use Rattle.std.specs.Prelude.{All, IfOk, Ok, Err}
 use Rattle.std.specs.declared.result.Result.{Result}
-use Rattle.std.specs.List.{flat_map, starts_with}
-use Rattle.std.specs.Fmt.{decimal}
 use Rattle.std.specs.Str.{bytes_eq}
-use Rattle.std.proofs.lemmas.Bool.{leb-true}
-use Rattle.std.proofs.lemmas.List.{length-drop, length-map, length_push, drop_all}
+use Rattle.std.proofs.lemmas.List.{length-map, length_push}
 use Rattle.std.proofs.lemmas.List.Elements.{All-nil, All-cons}
 use Rattle.std.proofs.lemmas.Option.{slice_get_within}
 use Rattle.std.proofs.lemmas.List.Quantifiers.{position-Some}
@@ -14,20 +11,19 @@ use Rattle.std.proofs.lemmas.Slice.Eq.{bytes_eq-Decides}
 use Rattle.tree_definitions.specs.Automaton.{Automaton}
 use Rattle.tree_definitions.specs.Relation.{IsAt}
 use Rattle.tree_definitions.specs.UpTrail.{UpEntry}
-use Rattle.witness_trees.specs.Judged.{Verdict, Is, then_judged, cut_at, is_number, number_of, place_in}
+use Rattle.witness_trees.specs.Judged.{Verdict, Is, then_judged, place_in}
 use Rattle.witness_trees.specs.Answers.{Answers}
 use Rattle.witness_trees.specs.declared.reader.NodesTextError.{NodesTextError}
 use Rattle.witness_trees.proofs.Symbols.{and_parts}
 use Rattle.witness_trees.proofs.Lines.{place_means, earlier_kids}
-use Rattle.witness_trees.proofs.Inverse.{passed, cut_joined, number_written}
-use Rattle.certificate_lines.specs.Lines.{stands_at, line_then, lines_in}
 use Rattle.certificate_lines.specs.Pairs.{state_in, state_then, states_in}
-use Rattle.certificate_lines.proofs.Lined.{behind_line, behind_word, AreFound, lines_inverse}
+use Rattle.certificate_lines.proofs.BudgetLines.{budgeted_inverse}
+use Rattle.certificate_lines.proofs.Lined.{AreFound}
 use Rattle.certificate_lines.proofs.Sets.{with_length}
-use Rattle.certificate_lines.proofs.Starts.{starts_joined}
 use Rattle.certificate_lines.proofs.Verdicts.{let_through, went_on_with}
-use Rattle.entry_lines.specs.Entries.{entry_text, entries_line, up_entries_text, WrittenEntry, entry_written, are_numbers_to, entry_of, entry_judged, entry_named, entry_spelled, entry_in, BudgetedEntries, budget_in, end_of_entries, behind_budget, budgeted, up_entries_in}
-use Rattle.entry_lines.specs.Fitting.{FitsUpEntry, AreUpEntries, IsPrintable}
+use Rattle.entry_lines.specs.Entries.{entry_text, up_entries_text, WrittenEntry, entry_written, are_numbers_to, entry_of, entry_judged, entry_named, entry_spelled, entry_in, BudgetedEntries, up_entries_in}
+use Rattle.certificate_kinds.specs.Fitting.{FitsUpEntry, AreUpEntries}
+use Rattle.entry_lines.specs.Fitting.{IsPrintable}
 use Rattle.entry_lines.specs.Views.{budgeted_view}
 
 -- where the value of a name was found
@@ -88,74 +84,22 @@ fits_at A B read (x ∷ xs) h (suc j) entry p =
     let e : length (read ++ x ∷ []) + j ≡ length read + suc j = omega (arith, grown) in
     subst (λ n. FitsUpEntry A B n entry) e (fits_at A B (read ++ x ∷ []) xs h.1 j entry p)
 
--- the line of a budget
-budget_means : (line : List ℕ) (budget : ℕ) → budget_in line ≡ Some budget → (line ≡ codes "budget " ++ decimal budget) × (1 ≤ budget) × (budget ≤ 1000000)
-budget_means line budget h =
-    let digits = drop 7 line in
-    let t = passed (starts_with nat_eq line (codes "budget ") && (is_number digits && (nat_le 1 (number_of digits) && nat_le (number_of digits) 1000000))) (Some (number_of digits)) budget h in
-    let first = and_parts (starts_with nat_eq line (codes "budget ")) (is_number digits && (nat_le 1 (number_of digits) && nat_le (number_of digits) 1000000)) t.0 in
-    let second = and_parts (is_number digits) (nat_le 1 (number_of digits) && nat_le (number_of digits) 1000000) first.1 in
-    let third = and_parts (nat_le 1 (number_of digits)) (nat_le (number_of digits) 1000000) second.1 in
-    let value : number_of digits ≡ budget = let v = t.1 in cc in
-    let some = leb-true 1 (number_of digits) third.0 in
-    let few = leb-true (number_of digits) 1000000 third.1 in
-    let written : digits ≡ decimal budget = sym (number_written digits second.0 (omega (arith, few))) ∙ ap decimal value in
-    (starts_joined (codes "budget ") line first.0 ∙ ap (λ ds. codes "budget " ++ ds) written, omega (arith, some, value), omega (arith, few, value))
-
 -- what is read is a budget and entries that fit, and their text ends the text
 pub up_entries_inverse : (A B : Automaton) (text : List ℕ) (at : ℕ) (found : BudgetedEntries) → at ≤ length text → up_entries_in A B text at ≡ Is found
     → AreUpEntries A B found.budget found.entries × (drop at text ≡ up_entries_text A B found.budget found.entries)
 unfolding up_entries_in up_entries_text
-up_entries_inverse A B text at found within h = cut (cut_at 10 (drop at text)) refl h
-  where
-    IsRead : BudgetedEntries → Type 0
-    IsRead found = AreUpEntries A B found.budget found.entries × (drop at text ≡ up_entries_text A B found.budget found.entries)
-
-    below : (p : List ℕ × List ℕ) → cut_at 10 (drop at text) ≡ Some p → (budget : ℕ) → budget_in p.0 ≡ Some budget → behind_budget A B text (at + length p.0 + 1) budget ≡ Is found → IsRead found
-    below p e budget b k =
-        let line = p.0 in
-        let after = at + length line + 1 in
-        let count = entries_line budget in
-        let from = after + length count in
-        let means = budget_means line budget b in
-        let begins : drop at text ≡ line ++ 10 ∷ p.1 = cut_joined 10 (drop at text) p e in
-        let left = length-drop at text in
-        let long = ap length begins in
-        let parts = length-append line (10 ∷ p.1) in
-        let le : after ≤ length text = omega (arith, left, long, parts, within) in
-        let t = let_through (stands_at count text after) (then_judged (lines_in (entry_in A B) text (budget + 1) from []) (end_of_entries text budget)) after found k in
-        let head = behind_word count text after le t.0 in
-        let s = went_on_with (lines_in (entry_in A B) text (budget + 1) from []) (end_of_entries text budget) found t.1 in
-        let piece = s.0 in
-        let made : BudgetedEntries = record { budget = budget; entries = piece.value } in
-        let u = let_through (nat_le (length text) piece.after) (Is made) piece.after found s.2 in
-        let same : made ≡ found = let v = u.1 in cc in
-        let r = lines_inverse (entry_in A B) (entry_text A B) (λ read entry. FitsUpEntry A B (length read) entry) text (entry_means A B) (budget + 1) from [] piece head.1 s.1 in
-        let is : piece.value ≡ r.more = r.all in
-        let lines = flat_map (λ entry. entry_text A B entry ++ 10 ∷ []) piece.value in
-        let none : drop piece.after text ≡ [] = drop_all piece.after text (leb-true (length text) piece.after u.0) in
-        let last : drop from text ≡ lines = r.printed ∙ ap₂ (λ xs ys. flat_map (λ entry. entry_text A B entry ++ 10 ∷ []) xs ++ ys) (sym is) none ∙ append-nil lines in
-        let behind : p.1 ≡ count ++ lines = sym (behind_line text line p.1 at begins) ∙ head.0 ∙ ap (λ xs. count ++ xs) last in
-        let first = codes "budget " ++ decimal budget in
-        subst IsRead same (
-          record {
-            some = means.1;
-            few = means.2;
-            count = ap length is ∙ r.as_many;
-            fitting = λ j entry q.
-                let e0 : 0 + j ≡ j = omega arith in
-                subst (λ n. FitsUpEntry A B n entry) e0 (fits_at A B [] r.more r.found j entry (subst (λ xs. IsAt xs j entry) is q));
-          },
-          begins ∙ ap₂ (λ xs ys. xs ++ 10 ∷ ys) means.0 behind ∙ sym (append_assoc first (10 ∷ []) (count ++ lines)) ∙ sym (append_assoc (first ++ 10 ∷ []) count lines),
-        )
-
-    counted : (p : List ℕ × List ℕ) → cut_at 10 (drop at text) ≡ Some p → (o : Option ℕ) → budget_in p.0 ≡ o → budgeted A B text at p.0 o ≡ Is found → IsRead found
-    counted p e None b k = absurd cc
-    counted p e (Some budget) b k = below p e budget b k
-
-    cut : (o : Option (List ℕ × List ℕ)) → cut_at 10 (drop at text) ≡ o → line_then at (λ line. budgeted A B text at line (budget_in line)) o ≡ Is found → IsRead found
-    cut None e k = absurd cc
-    cut (Some p) e k = counted p e (budget_in p.0) refl k
+up_entries_inverse A B text at found within h =
+    let r = budgeted_inverse (entry_in A B) (entry_text A B) (λ read entry. FitsUpEntry A B (length read) entry) (entry_means A B) text at found within h in (
+      record {
+        some = r.some;
+        few = r.few;
+        count = r.count;
+        fitting = λ j entry p.
+            let e : 0 + j ≡ j = omega arith in
+            subst (λ n. FitsUpEntry A B n entry) e (fits_at A B [] found.entries r.each j entry p);
+      },
+      r.printed,
+    )
 
 -- what a reader answers fits
 pub answered_fits : {V : Type 0} (items : V → List UpEntry) (A B : Automaton) (text : List ℕ) (at : ℕ) (result : Result (ℕ × V) NodesTextError) → at ≤ length text → Answers (budgeted_view items) result (up_entries_in A B text at)

@@ -1,18 +1,17 @@
 -- What is said of the line of an entry that was read with capped numbers.
-use Rattle.std.proofs.Common.{◌≡◌, ℕ, ◌+◌, ◌-◌, ◌<◌, Bool, true, false, cond, ◌&&◌, List, [], length, take, drop, map, Option, Some, None, refl, sym, ap, ap₂, ◌∙◌, arith}
+use Rattle.std.proofs.Common.{◌≡◌, ℕ, ◌+◌, ◌<◌, Bool, true, false, cond, ◌&&◌, List, [], length, map, Option, Some, None, refl, sym, ap, ap₂, ◌∙◌}
 use Rattle.std.specs.Prelude.{option_map}
 use Rattle.std.specs.Str.{bytes_eq}
-use Rattle.std.proofs.lemmas.List.{length-map, length-take-le, take_rest}
+use Rattle.std.proofs.lemmas.List.{length-map}
 use Rattle.std.proofs.lemmas.Option.{slice_get_within}
 use Rattle.tree_definitions.specs.Automaton.{Automaton}
 use Rattle.tree_definitions.specs.Tree.{Symbol}
 use Rattle.tree_definitions.specs.UpTrail.{UpEntry}
-use Rattle.witness_trees.specs.Judged.{Verdict, Is, BadAt, then_judged, cut_at, place_in}
+use Rattle.witness_trees.specs.Judged.{Verdict, Is, BadAt, then_judged, place_in}
 use Rattle.witness_trees.specs.Answers.{capped}
 use Rattle.witness_trees.proofs.Lines.{kids_same, places_same, place_means}
-use Rattle.certificate_lines.specs.Lines.{line_then}
 use Rattle.certificate_lines.specs.Pairs.{state_in, state_then, states_in}
-use Rattle.entry_lines.specs.Entries.{entry_text, WrittenEntry, entry_written, are_numbers_to, entry_of, entry_judged, entry_named, entry_spelled, entry_in, BudgetedEntries, budget_in, behind_budget, budgeted, up_entries_in}
+use Rattle.entry_lines.specs.Entries.{entry_text, WrittenEntry, entry_written, are_numbers_to, entry_of, entry_judged, entry_named, entry_spelled, entry_in}
 use Rattle.entry_lines.specs.Views.{capped_entry}
 
 -- a symbol that was found is one of the list
@@ -49,19 +48,3 @@ entry_in_written A B read at line w small h = go (entry_written line) h
     go (Some v) e =
         let same : capped_entry v ≡ w = cc in
         sym (named_same A B (length read) at line v small) ∙ ap (entry_named A B (length read) at line) same
-
--- what is said behind the line of a budget
-pub behind_judged : (A B : Automaton) (text : List ℕ) (at end budget : ℕ) (line : List ℕ) → end < length (take (length text - at) (drop at text))
-    → cut_at 10 (take (length text - at) (drop at text)) ≡ Some (take end (take (length text - at) (drop at text)), drop (end + 1) (take (length text - at) (drop at text)))
-    → line ≡ take (at + end - at) (drop at text) → Some budget ≡ budget_in line → up_entries_in A B text at ≡ behind_budget A B text (at + end + 1) budget
-unfolding up_entries_in
-behind_judged A B text at end budget line inside cut is said =
-    let whole = take_rest text at in
-    let size : end ≡ at + end - at = omega arith in
-    let is_line : take end (take (length text - at) (drop at text)) ≡ line = ap (take end) whole ∙ ap (λ n. take n (drop at text)) size ∙ sym is in
-    let long : length line ≡ end = ap length (sym is_line) ∙ length-take-le end (take (length text - at) (drop at text)) (omega (arith, inside)) in
-    let after : at + length line + 1 ≡ at + end + 1 = omega (arith, long) in
-    ap (line_then at next) (ap (cut_at 10) (sym whole) ∙ cut) ∙ ap next is_line ∙ ap (budgeted A B text at line) (sym said) ∙ ap (λ n. behind_budget A B text n budget) after
-  where
-    next : List ℕ → Verdict BudgetedEntries
-    next line = budgeted A B text at line (budget_in line)

@@ -1,4 +1,3 @@
-pub mod Spans
 pub mod Judging
 pub mod Printed
 pub mod ReadBack

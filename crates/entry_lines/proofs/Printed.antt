@@ -1,13 +1,13 @@
 -- The printed line of an entry, and how it is written.
-use Rattle.std.proofs.Common.{◌≡◌, ℕ, suc, ◌+◌, ◌-◌, ◌^◌, ◌<◌, Bool, true, false, cond, ◌&&◌, List, [], ◌∷◌, ◌++◌, length, length-append, take, map, Option, Some, None, refl, sym, ap, ap₂, ◌∙◌, subst, append_assoc, append-nil, arith}
-use Rattle.std.specs.Prelude.{All, ◌==◌, codes}
+use Rattle.std.proofs.Common.{◌≡◌, ℕ, suc, ◌+◌, ◌-◌, ◌^◌, ◌<◌, Bool, true, false, cond, ◌&&◌, List, [], ◌∷◌, ◌++◌, length, length-append, take, map, Option, Some, None, refl, sym, ap, ap₂, ◌∙◌, subst, append_assoc, arith}
+use Rattle.std.specs.Prelude.{◌==◌, codes}
 use Rattle.std.specs.List.{flat_map}
 use Rattle.std.specs.Str.{bytes_eq}
 use Rattle.std.proofs.Math.Seq.{take-append_seam}
 use Rattle.std.proofs.lemmas.Bool.{eq-eqb, le-leb}
 use Rattle.std.proofs.lemmas.List.Elements.{All-from_recursion, recursion_from_All, All-contains}
 use Rattle.std.proofs.lemmas.List.Splits.{slice_split_none, slice_split_at}
-use Rattle.tree_definitions.specs.Name.{IsName, is_name}
+use Rattle.tree_definitions.specs.Name.{IsName}
 use Rattle.tree_definitions.specs.Tree.{Symbol}
 use Rattle.tree_definitions.specs.Automaton.{Automaton}
 use Rattle.tree_definitions.specs.UpTrail.{UpEntry}
@@ -16,37 +16,18 @@ use Rattle.ta_model.specs.Listing.{IsListed}
 use Rattle.listed_pairs.specs.Members.{members}
 use Rattle.witness_trees.specs.NodesText.{name_at, number_text, kids_text}
 use Rattle.witness_trees.specs.Judged.{◌>>=◌, is_digit, pieces_at, call_in}
-use Rattle.witness_trees.proofs.Symbols.{and_both}
 use Rattle.witness_trees.proofs.Spelled.{IsFree, AreSmall, free_append, name_free, inner_free, call_back, name_found, small_earlier}
-use Rattle.certificate_lines.specs.Pairs.{state_name, pair_text, spelled_words, state_and_names}
-use Rattle.certificate_lines.proofs.PairNames.{AreStates, name_is, all_names, names_free}
+use Rattle.certificate_lines.specs.Pairs.{state_name, pair_text, spelled_words}
+use Rattle.certificate_lines.proofs.PairNames.{AreStates, name_is, names_free}
 use Rattle.certificate_lines.proofs.PairSets.{members_within}
+use Rattle.certificate_lines.proofs.Spaced.{colon_free, words_then, word_behind, named_words}
 use Rattle.entry_lines.specs.Entries.{entry_text, WrittenEntry, word_at, written_words, entry_written}
-use Rattle.entry_lines.specs.Fitting.{FitsUpEntry}
+use Rattle.certificate_kinds.specs.Fitting.{FitsUpEntry}
 
 -- no mark stands in numbers of children
 kids_free : (c : ℕ) → is_digit c ≡ false → (44 == c) ≡ false → (40 == c) ≡ false → (41 == c) ≡ false → (ks : List ℕ) → AreSmall ks → IsFree c (kids_text ks)
 kids_free c digit comma left right [] all = tt
 kids_free c digit comma left right (k ∷ ks) all = (left, free_append c (number_text k ++ flat_map (λ j. 44 ∷ number_text j) ks) (41 ∷ []) (inner_free c digit comma k ks all.0 all.1) (right, tt))
-
-colon_free : IsFree 32 (58 ∷ [])
-colon_free = (refl, tt)
-
--- words with a space before each, and what stands behind them
-words_then : (names : List (List ℕ)) → All IsName names → (first : List ℕ) (places : List ℕ) (rest : List ℕ) → IsFree 32 first → AreStates names places
-    → pieces_at 32 ((first ++ flat_map (λ s. 32 ∷ state_name names s) places) ++ 32 ∷ rest) ≡ first ∷ map (state_name names) places ++ pieces_at 32 rest
-words_then names all first [] rest free h =
-    ap (λ xs. pieces_at 32 (xs ++ 32 ∷ rest)) (append-nil first) ∙ slice_split_at (λ b. b == 32) first 32 rest (All-from_recursion _ first free) (eq-eqb 32 32 refl)
-words_then names all first (q ∷ qs) rest free h =
-    let others = flat_map (λ s. 32 ∷ state_name names s) qs in
-    ap (pieces_at 32) (append_assoc first (32 ∷ (state_name names q ++ others)) (32 ∷ rest))
-    ∙ slice_split_at (λ b. b == 32) first 32 ((state_name names q ++ others) ++ 32 ∷ rest) (All-from_recursion _ first free) (eq-eqb 32 32 refl)
-    ∙ ap (λ ws. first ∷ ws) (words_then names all (state_name names q) qs rest (name_free 32 refl (state_name names q) (name_is names all q h.0)) h.1)
-
--- the words behind a front
-word_behind : (front rest : List (List ℕ)) (w : List ℕ) → word_at (front ++ w ∷ rest) (length front) ≡ w
-word_behind [] rest w = refl
-word_behind (x ∷ front) rest w = word_behind front rest w
 
 next_word : (front : List (List ℕ)) (w v : List ℕ) → word_at (front ++ w ∷ v ∷ []) (length front + 1) ≡ v
 next_word front w v =
@@ -127,9 +108,7 @@ module _ (A B : Automaton) (ours : IsListed A) (theirs : IsListed B) (k : ℕ) (
       ∙ ap (λ ws. (58 ∷ []) ∷ ws) (slice_split_none (λ b. b == 32) call (All-from_recursion _ call call_free)))
 
   pair_words : spelled_words (state ∷ (58 ∷ []) ∷ names) ≡ Some (state, names)
-  pair_words =
-      ap (λ b. state_and_names state (is_name state && bytes_eq (58 ∷ []) (58 ∷ [])) (cond b (Some names) None)) (all_names B.states theirs.state_names (members entry.pair.set) member_states)
-      ∙ ap (λ b. state_and_names state b (Some names)) (and_both (is_name state) (bytes_eq (58 ∷ []) (58 ∷ [])) state_is refl)
+  pair_words = named_words B.states theirs.state_names state (members entry.pair.set) state_is member_states
 
   -- how it is written
   pub written_back : entry_written (entry_text A B entry) ≡ Some (record {

@@ -1,12 +1,8 @@
 -- The printed text of a budget and entries is read as these.
-use Rattle.std.proofs.Common.{◌≡◌, ℕ, suc, ◌+◌, ◌-◌, ◌^◌, ◌<◌, ◌≤◌, true, cond, ◌&&◌, List, [], ◌∷◌, ◌++◌, length, length-append, drop, map, Some, None, refl, sym, ap, ap₂, ◌∙◌, subst, append_assoc, append-nil, arith}
-use Rattle.std.specs.Prelude.{nat_le, nat_eq, codes}
-use Rattle.std.specs.List.{flat_map, starts_with}
-use Rattle.std.specs.Fmt.{decimal}
+use Rattle.std.proofs.Common.{◌≡◌, ℕ, suc, ◌+◌, ◌-◌, ◌^◌, ◌<◌, ◌≤◌, cond, List, [], ◌∷◌, ◌++◌, length, drop, map, Some, refl, sym, ap, ap₂, ◌∙◌, subst, arith}
 use Rattle.std.specs.Str.{bytes_eq}
 use Rattle.std.proofs.Math.Seq.{drop-append_seam}
-use Rattle.std.proofs.lemmas.Bool.{le-leb}
-use Rattle.std.proofs.lemmas.List.{length-drop, length-map, length_push, drop-drop}
+use Rattle.std.proofs.lemmas.List.{length-map, length_push}
 use Rattle.std.proofs.lemmas.List.Elements.{recursion_from_All}
 use Rattle.std.proofs.lemmas.Slice.Eq.{bytes_eq-Decides}
 use Rattle.tree_definitions.specs.Automaton.{Automaton}
@@ -15,17 +11,16 @@ use Rattle.tree_definitions.specs.UpTrail.{UpEntry}
 use Rattle.ta_model.specs.Listing.{IsListed}
 use Rattle.listed_pairs.specs.Members.{members, row_with}
 use Rattle.witness_trees.specs.NodesText.{name_at, kids_text}
-use Rattle.witness_trees.specs.Judged.{Is, BadAt, then_judged, cut_at, is_number, number_of, place_in}
+use Rattle.witness_trees.specs.Judged.{Is, BadAt, then_judged, place_in}
 use Rattle.witness_trees.proofs.Symbols.{and_both}
-use Rattle.witness_trees.proofs.Spelled.{IsFree, free_append, number_free, cut_free, decimal_number, decimal_value, place_back, suc_within, pred_suc, name_found}
-use Rattle.certificate_lines.specs.Lines.{stands_at, line_then, lines_in}
+use Rattle.witness_trees.proofs.Spelled.{place_back, suc_within, pred_suc, name_found}
 use Rattle.certificate_lines.specs.Pairs.{state_name, state_then, states_in}
-use Rattle.certificate_lines.proofs.Lined.{behind_line, AreJudged, lines_back}
+use Rattle.certificate_lines.proofs.BudgetLines.{budgeted_back}
+use Rattle.certificate_lines.proofs.Lined.{AreJudged}
 use Rattle.certificate_lines.proofs.PairNames as states
 use Rattle.certificate_lines.proofs.PairSets.{row_back}
-use Rattle.certificate_lines.proofs.Starts.{starts_own}
-use Rattle.entry_lines.specs.Entries.{entry_text, entries_line, up_entries_text, are_numbers_to, entry_of, entry_judged, entry_spelled, entry_in, BudgetedEntries, budget_in, end_of_entries, budgeted, up_entries_in}
-use Rattle.entry_lines.specs.Fitting.{FitsUpEntry, AreUpEntries}
+use Rattle.entry_lines.specs.Entries.{entry_text, up_entries_text, are_numbers_to, entry_of, entry_judged, entry_spelled, entry_in, up_entries_in}
+use Rattle.certificate_kinds.specs.Fitting.{FitsUpEntry, AreUpEntries}
 use Rattle.entry_lines.proofs.Printed.{entry_free, member_states, written_back}
 
 module _ (A B : Automaton) (ours : IsListed A) (theirs : IsListed B) where
@@ -81,63 +76,16 @@ module _ (A B : Automaton) (ours : IsListed A) (theirs : IsListed B) where
             (λ j x p. let e : k + suc j ≡ length (read ++ entry ∷ []) + j = omega (arith, grown) in subst (λ n. FitsUpEntry A B n x) e (fits (suc j) x p)) (omega (arith, grown, few)),
       )
 
-budget_free : (budget : ℕ) → budget ≤ 1000000 → IsFree 10 (codes "budget " ++ decimal budget)
-budget_free budget few =
-    free_append 10 (codes "budget ") (decimal budget) (refl, (refl, (refl, (refl, (refl, (refl, (refl, tt))))))) (number_free 10 refl budget (omega (arith, few)))
-
-budget_back : (budget : ℕ) → 1 ≤ budget → budget ≤ 1000000 → budget_in (codes "budget " ++ decimal budget) ≡ Some budget
-budget_back budget some few =
-    let value = decimal_value budget (omega (arith, few)) in
-    let limits : (nat_le 1 (number_of (decimal budget)) && nat_le (number_of (decimal budget)) 1000000) ≡ true =
-    ap (λ n. nat_le 1 n && nat_le n 1000000) value ∙ and_both (nat_le 1 budget) (nat_le budget 1000000) (le-leb 1 budget some) (le-leb budget 1000000 few) in
-    ap (λ t. cond t (Some (number_of (decimal budget))) None) (and_both (is_number (decimal budget)) (nat_le 1 (number_of (decimal budget)) && nat_le (number_of (decimal budget)) 1000000) (decimal_number budget (omega (arith, some)) (omega (arith, few))) limits)
-    ∙ ap Some value
-
 -- the text of a budget and entries that fit is read as these, wherever it ends a text
 pub up_entries_back : (A B : Automaton) → IsListed A → IsListed B → (budget : ℕ) (entries : List UpEntry) → AreUpEntries A B budget entries → (text : List ℕ) (at : ℕ) → drop at text ≡ up_entries_text A B budget entries
     → up_entries_in A B text at ≡ Is (record { budget = budget; entries = entries })
 unfolding up_entries_in up_entries_text
 up_entries_back A B ours theirs budget entries fits text at here =
-    let some = fits.some in
     let few = fits.few in
-    let whole : drop at text ≡ head ++ 10 ∷ (count ++ lines) = here ∙ append_assoc (head ++ 10 ∷ []) count lines ∙ append_assoc head (10 ∷ []) (count ++ lines) in
-    let behind : drop after text ≡ count ++ lines = behind_line text head (count ++ lines) at whole in
-    let stands : stands_at count text after ≡ true = ap (λ xs. starts_with nat_eq xs count) behind ∙ starts_own count lines in
-    let last : drop from text ≡ lines ++ [] = sym (drop-drop (length count) after text) ∙ ap (drop (length count)) behind ∙ drop-append_seam count lines ∙ sym (append-nil lines) in
-    let size : length entries ≡ budget + 1 = fits.count in
-    let judged = entries_judged A B ours theirs [] entries
-    (λ j entry p. let e : j ≡ 0 + j = omega arith in subst (λ n. FitsUpEntry A B n entry) e (fits.fitting j entry p)) (omega (arith, size, few)) in
-    let read = lines_back (entry_in A B) (entry_text A B) text [] from [] entries last judged in
-    let left = length-drop at text in
-    let long = ap length whole in
-    let parts = length-append head (10 ∷ (count ++ lines)) in
-    let others = length-append count lines in
-    let past : length text ≤ from + length lines = omega (arith, left, long, parts, others) in
-    ap (λ bytes. line_then at (λ line. budgeted A B text at line (budget_in line)) (cut_at 10 bytes)) whole
-    ∙ ap (line_then at (λ line. budgeted A B text at line (budget_in line))) (cut_free 10 head (count ++ lines) (budget_free budget few))
-    ∙ ap (budgeted A B text at head) (budget_back budget some few)
-    ∙ ap (λ b. cond b (then_judged (lines_in (entry_in A B) text (budget + 1) from []) (end_of_entries text budget)) (BadAt after)) stands
-    ∙ ap (λ n. then_judged (lines_in (entry_in A B) text n from []) (end_of_entries text budget)) (sym size)
-    ∙ ap (λ v. then_judged v (end_of_entries text budget)) read
-    ∙ ap (λ b. cond b (Is found) (BadAt (from + length lines))) (le-leb (length text) (from + length lines) past)
-  where
-    head : List ℕ
-    head = codes "budget " ++ decimal budget
-
-    count : List ℕ
-    count = entries_line budget
-
-    lines : List ℕ
-    lines = flat_map (λ entry. entry_text A B entry ++ 10 ∷ []) entries
-
-    after : ℕ
-    after = at + length head + 1
-
-    from : ℕ
-    from = after + length count
-
-    found : BudgetedEntries
-    found = record { budget = budget; entries = entries }
+    let size = fits.count in
+    budgeted_back (entry_in A B) (entry_text A B) budget entries fits.some few size
+    (entries_judged A B ours theirs [] entries (λ j entry p. let e : j ≡ 0 + j = omega arith in subst (λ n. FitsUpEntry A B n entry) e (fits.fitting j entry p)) (omega (arith, size, few)))
+    text at here
 
 -- the same behind a front
 pub up_entries_read_back : (A B : Automaton) (front : List ℕ) (budget : ℕ) (entries : List UpEntry) → IsListed A → IsListed B → AreUpEntries A B budget entries

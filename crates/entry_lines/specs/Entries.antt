@@ -1,28 +1,22 @@
 -- The lines of a budget and the entries of an upward trail.
-use Rattle.std.specs.Prelude.{ℕ, ◌+◌, ◌-◌, Bool, ◌&&◌, nat_le, nat_eq, List, [], ◌∷◌, ◌++◌, length, take, drop, map, codes, Option, Some, None, slice_index_or, if◌then◌else◌}
-use Rattle.std.specs.List.{flat_map, list_all, starts_with}
-use Rattle.std.specs.Fmt.{decimal}
+use Rattle.std.specs.Prelude.{ℕ, ◌+◌, ◌-◌, Bool, ◌&&◌, nat_le, List, [], ◌∷◌, ◌++◌, length, take, map, codes, Option, Some, None, slice_index_or, if◌then◌else◌}
+use Rattle.std.specs.List.{list_all}
 use Rattle.std.specs.Str.{bytes_eq}
 use Rattle.tree_definitions.specs.Automaton.{Automaton}
 use Rattle.tree_definitions.specs.UpTrail.{UpEntry}
 use Rattle.listed_pairs.specs.Members.{row_with}
 use Rattle.witness_trees.specs.NodesText.{name_at, kids_text}
-use Rattle.witness_trees.specs.Judged.{Verdict, Is, BadAt, then_judged, ◌>>=◌, cut_at, pieces_at, is_number, number_of, call_in, place_in}
-use Rattle.certificate_lines.specs.Lines.{Piece, stands_at, line_then, lines_in}
+use Rattle.witness_trees.specs.Judged.{Verdict, Is, BadAt, then_judged, ◌>>=◌, pieces_at, call_in, place_in}
+use Rattle.certificate_lines.specs.Budgets.{Budgeted, budgeted_text, budgeted_in}
 use Rattle.certificate_lines.specs.Pairs.{pair_text, state_in, state_then, states_in, spelled_words}
 
 -- an entry as `q : s1 s2 : f(1,2)`, without its line feed
 abbrev pub entry_text : Automaton → Automaton → UpEntry → List ℕ
 entry_text A B entry = pair_text A B entry.pair ++ codes " : " ++ name_at A.symbols entry.symbol ++ kids_text entry.kids
 
--- the line that says how many entries go with the budget, one more
-abbrev pub entries_line : ℕ → List ℕ
-entries_line budget = codes "entries " ++ decimal (budget + 1) ++ 10 ∷ []
-
 -- the line `budget K`, the line `entries N` where N is one more, and a line for each entry
 unfoldable pub up_entries_text : Automaton → Automaton → ℕ → List UpEntry → List ℕ
-up_entries_text A B budget entries =
-    codes "budget " ++ decimal budget ++ 10 ∷ [] ++ entries_line budget ++ flat_map (λ entry. entry_text A B entry ++ 10 ∷ []) entries
+up_entries_text A B budget entries = budgeted_text (entry_text A B) budget entries
 
 -- the line of an entry as written: the names of its state and its members, where its symbol's name stands and which it is, and the numbers of its children
 pub record WrittenEntry : Type 0 where
@@ -84,30 +78,9 @@ unfoldable pub entry_in : Automaton → Automaton → List UpEntry → ℕ → L
 entry_in A B read at line = entry_spelled A B (length read) at line (entry_written line)
 
 -- a budget and the entries that stand behind it
-pub record BudgetedEntries : Type 0 where
-  pub budget : ℕ
-  pub entries : List UpEntry
-
--- the budget that the line says, from 1 to 1,000,000
-abbrev pub budget_in : List ℕ → Option ℕ
-budget_in line =
-    let digits = drop 7 line in
-    if starts_with nat_eq line (codes "budget ") && (is_number digits && (nat_le 1 (number_of digits) && nat_le (number_of digits) 1000000)) then Some (number_of digits) else None
-
--- nothing stands behind the last entry
-abbrev pub end_of_entries : List ℕ → ℕ → Piece (List UpEntry) → Verdict BudgetedEntries
-end_of_entries text budget piece = if nat_le (length text) piece.after then Is (record { budget = budget; entries = piece.value }) else BadAt piece.after
-
--- what stands behind the line of the budget, which ends before this byte
-abbrev pub behind_budget : Automaton → Automaton → List ℕ → ℕ → ℕ → Verdict BudgetedEntries
-behind_budget A B text after budget =
-    if stands_at (entries_line budget) text after then then_judged (lines_in (entry_in A B) text (budget + 1) (after + length (entries_line budget)) []) (end_of_entries text budget)
-    else BadAt after
-
-abbrev pub budgeted : Automaton → Automaton → List ℕ → ℕ → List ℕ → Option ℕ → Verdict BudgetedEntries
-budgeted A B text at line None = BadAt at
-budgeted A B text at line (Some budget) = behind_budget A B text (at + length line + 1) budget
+abbrev pub BudgetedEntries : Type 0
+BudgetedEntries = Budgeted UpEntry
 
 -- the budget and the entries that stand from this byte to the end of the text
 unfoldable pub up_entries_in : Automaton → Automaton → List ℕ → ℕ → Verdict BudgetedEntries
-up_entries_in A B text at = line_then at (λ line. budgeted A B text at line (budget_in line)) (cut_at 10 (drop at text))
+up_entries_in A B text at = budgeted_in (entry_in A B) text at

@@ -1,23 +1,8 @@
--- Which budgets and entries can be written.
-use Rattle.std.specs.Prelude.{◌≡◌, ℕ, ◌+◌, ◌<◌, ◌≤◌, List, All, length}
-use Rattle.tree_definitions.specs.Tree.{Symbol}
+-- Which entries can be printed.
+use Rattle.std.specs.Prelude.{◌<◌, length}
 use Rattle.tree_definitions.specs.Automaton.{Automaton}
 use Rattle.tree_definitions.specs.Cover.{FitsPair}
-use Rattle.tree_definitions.specs.Relation.{IsAt}
 use Rattle.tree_definitions.specs.UpTrail.{UpEntry}
-
--- entry k has a pair that fits, a symbol of A, and as many children as its rank, which are earlier entries
-pub record FitsUpEntry (A B : Automaton) (k : ℕ) (entry : UpEntry) : Type 0 where
-  pub pair : FitsPair A B entry.pair
-  pub symbol : (a : Symbol) × IsAt A.symbols entry.symbol a × (length entry.kids ≡ a.rank)
-  pub earlier : All (λ j. j < k) entry.kids
-
--- a budget from 1 to 1,000,000, and one entry more, each of which fits at its place
-pub record AreUpEntries (A B : Automaton) (budget : ℕ) (entries : List UpEntry) : Type 0 where
-  pub some : 1 ≤ budget
-  pub few : budget ≤ 1000000
-  pub count : length entries ≡ budget + 1
-  pub fitting : (k : ℕ) (entry : UpEntry) → IsAt entries k entry → FitsUpEntry A B k entry
 
 -- the pair fits, and the symbol is one of A
 pub record IsPrintable (A B : Automaton) (entry : UpEntry) : Type 0 where

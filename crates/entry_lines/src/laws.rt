@@ -6,7 +6,7 @@ ghost use Rattle.tree_definitions.specs.UpTrail.{UpEntry};
 ghost use Rattle.ta_model.specs.Listing.{IsListed};
 ghost use Rattle.witness_trees.specs.Judged.{Is};
 ghost use Rattle.entry_lines.specs.Entries.{BudgetedEntries, up_entries_in, up_entries_text};
-ghost use Rattle.entry_lines.specs.Fitting.{AreUpEntries};
+ghost use Rattle.certificate_kinds.specs.Fitting.{AreUpEntries};
 
 /// The text of a budget and entries that fit, behind any bytes, is read as these.
 pub fn printed_up_entries_are_read_back()

@@ -3,14 +3,15 @@
 ghost use Rattle.std.specs.Prelude.{◌≡◌, ◌<◌, ◌++◌, ◌∷◌, [], All, OnOk, length};
 ghost use Rattle.std.specs.List.{flat_map};
 ghost use Rattle.witness_trees.specs.NodesText.{name_at};
-ghost use Rattle.entry_lines.specs.Entries.{entries_line, entry_text, up_entries_text};
+ghost use Rattle.entry_lines.specs.Entries.{entry_text, up_entries_text};
 ghost use Rattle.entry_lines.specs.Fitting.{IsPrintable};
 
+use certificate_lines::budgets::put_head;
 use certificate_lines::pairs::put_pair;
 use listed_pairs::UpEntry;
 use std::alloc::AllocError;
 use ta_model::{Listed, Symbol};
-use witness_trees::{put_kids, put_number};
+use witness_trees::put_kids;
 
 fn put_symbol(out: &mut Vec<u8>, symbols: &[Symbol], place: usize) -> Result<(), AllocError>
     requires { place < length symbols.now }
@@ -55,16 +56,6 @@ fn put_lines(
     Ok(())
 }
 
-/// The line that says how many entries go with the budget.
-pub(crate) fn put_count(out: &mut Vec<u8>, budget: u32) -> Result<(), AllocError>
-    ensures { OnOk result (out.new.items ≡ out.old.items ++ entries_line budget) }
-{
-    out.extend_from_slice(b"entries ")?;
-    put_number(out, u64::from(budget) + 1)?;
-    out.push(b'\n')?;
-    Ok(())
-}
-
 /// The line `budget K`, the line `entries N`, and a line for each entry.
 #[tactic(auto, unfolding(crate::specs::Entries::up_entries_text))]
 pub fn put_up_entries(
@@ -77,10 +68,7 @@ pub fn put_up_entries(
     requires { All (IsPrintable a.now b.now) entries.now }
     ensures { OnOk result (out.new.items ≡ out.old.items ++ up_entries_text a.now b.now budget entries.now) }
 {
-    out.extend_from_slice(b"budget ")?;
-    put_number(out, u64::from(budget))?;
-    out.push(b'\n')?;
-    put_count(out, budget)?;
+    put_head(out, budget)?;
     put_lines(out, a, b, entries)?;
     Ok(())
 }

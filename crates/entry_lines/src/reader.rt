@@ -4,20 +4,23 @@ ghost use Rattle.std.specs.Prelude.{◌≡◌, ◌+◌, ◌-◌, ◌<◌, ◌≤
 ghost use Rattle.std.specs.Str.{bytes_eq};
 ghost use Rattle.witness_trees.specs.Answers.{Answers};
 ghost use Rattle.witness_trees.specs.Judged.{then_judged};
+ghost use Rattle.certificate_lines.specs.Budgets.{end_of_entries};
 ghost use Rattle.certificate_lines.specs.Lines.{lines_in};
 ghost use Rattle.certificate_lines.specs.Telling.{piece_of, span};
-ghost use Rattle.entry_lines.specs.Entries.{behind_budget, budget_in, end_of_entries, entry_in, entry_judged, entry_named, entry_of, entry_text, up_entries_in};
-ghost use Rattle.entry_lines.specs.Fitting.{AreUpEntries, IsPrintable};
+ghost use Rattle.entry_lines.specs.Entries.{entry_in, entry_judged, entry_named, entry_of, entry_text, up_entries_in};
+ghost use Rattle.certificate_kinds.specs.Fitting.{AreUpEntries};
+ghost use Rattle.entry_lines.specs.Fitting.{IsPrintable};
 ghost use Rattle.entry_lines.specs.Views.{budgeted_view, line_view};
 
-use crate::printer::{put_count, put_entry};
+use crate::printer::put_entry;
 use crate::written::{Line, written_of};
 use certificate_lines::StatePlaces;
+use certificate_lines::budgets::read_head;
 use certificate_lines::pairs::{places_of, set_of};
 use listed_pairs::{Pair, UpEntry};
 use std::alloc::{AllocError, Global};
 use ta_model::Listed;
-use witness_trees::reader::{are_within, mark_place, value_of, writes_number};
+use witness_trees::reader::{are_within, mark_place};
 use witness_trees::{NodesTextError, SymbolPlaces};
 
 /// Places for numbers that count from 1.
@@ -207,25 +210,6 @@ fn read_lines(
     Ok((entries, at))
 }
 
-/// The budget that the line says.
-fn budget_of(line: &[u8]) -> Option<u32>
-    ensures { result ≡ budget_in line.now }
-{
-    if !line.starts_with(b"budget ") {
-        return None;
-    }
-    let digits = &line[7..];
-    if !writes_number(digits) {
-        return None;
-    }
-    let budget = value_of(digits);
-    if 1 <= budget && budget <= 1_000_000 {
-        Some(budget as u32)
-    } else {
-        None
-    }
-}
-
 /// The entries of so many lines that begin at this byte and end with the text.
 fn read_to_end(
     alloc: Global,
@@ -261,32 +245,26 @@ fn read_to_end(
     }
 }
 
-/// The entries behind the line of the budget, which ends before this byte.
-fn read_behind(
+/// The budget and the entries that stand from this byte to the end of the text.
+#[tactic(auto, unfolding(crate::specs::Entries::up_entries_in))]
+fn read_all(
     alloc: Global,
     a: &Listed,
     b: &Listed,
     text: &[u8],
     at: usize,
-    budget: u32,
 ) -> Result<(u32, Vec<UpEntry>), NodesTextError>
-    requires budget { budget ≤ 1000000 }
     requires bytes { length text.now < 4294967295 }
-    requires at { at ≤ length text.now }
-    ensures { Answers (budgeted_view (λ v. v.items)) result (behind_budget a.now b.now text.now at budget) }
+    requires from { at ≤ length text.now }
+    ensures { Answers (budgeted_view (λ v. v.items)) result (up_entries_in a.now b.now text.now at) }
 {
-    let mut count = Vec::new(alloc);
-    let Ok(()) = put_count(&mut count, budget) else {
-        return Err(NodesTextError::Memory);
-    };
-    if !text[at..].starts_with(&count) {
-        return Err(NodesTextError::BadText { at: at as u64 });
+    match read_head(alloc, text, at) {
+        Ok((budget, from)) => read_to_end(alloc, a, b, text, budget, from),
+        Err(error) => Err(error),
     }
-    read_to_end(alloc, a, b, text, budget, at + count.len())
 }
 
 /// The budget and the entries that stand from this byte to the end of the text.
-#[tactic(auto, unfolding(crate::specs::Entries::up_entries_in))]
 pub fn read_up_entries(
     alloc: Global,
     a: &Listed,
@@ -299,11 +277,5 @@ pub fn read_up_entries(
     ensures judged { Answers (budgeted_view (λ v. v.items)) result (up_entries_in a.now b.now text.now at) }
     ensures fits { IfOk result (λ found. AreUpEntries a.now b.now found.0 found.1.items) }
 {
-    let Some(end) = mark_place(&text[at..], b'\n') else {
-        return Err(NodesTextError::BadText { at: at as u64 });
-    };
-    let Some(budget) = budget_of(&text[at..at + end]) else {
-        return Err(NodesTextError::BadText { at: at as u64 });
-    };
-    read_behind(alloc, a, b, text, at + end + 1, budget)
+    read_all(alloc, a, b, text, at)
 }

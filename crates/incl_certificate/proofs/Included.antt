@@ -12,11 +12,11 @@ use Rattle.certificate_lines.specs.Pairs.{pairs_text}
 use Rattle.certificate_lines.specs.PairsRead.{ArePairsOf}
 use Rattle.certificate_lines.specs.Relations.{IsRelationAt, relation_text}
 use Rattle.certificate_lines.proofs.Starts.{starts_joined}
-use Rattle.incl_certificate.specs.Certificates.{FitsRelation, FitPairs, FitsUp, FitsDown}
+use Rattle.certificate_kinds.specs.Certificates.{FitsRelation, FitPairs, FitsUp, FitsDown}
 use Rattle.incl_certificate.specs.Telling.{IsDownBehind, IsUpBehind}
 use Rattle.incl_certificate.specs.Text.{included_line, up_line, down_line, left_word, right_word, both_word, up_text, down_text, certificate_text}
-use Rattle.incl_certificate.specs.declared.certificate.Certificate.{Certificate}
-use Rattle.incl_certificate.specs.declared.certificate.Certificate.TheVariants.{Up, Down, Tree, UpTrail}
+use Rattle.certificate_kinds.specs.declared.certificate.Certificate.{Certificate}
+use Rattle.certificate_kinds.specs.declared.certificate.Certificate.TheVariants.{Up, Down, Tree, UpTrail, DownTrail}
 use Rattle.incl_certificate.specs.declared.reading.CertError.{CertError}
 
 pub relation_fits : (word : List ℕ) (n : ℕ) (text : List ℕ) (at : ℕ) (piece : Piece Matrix) → IsRelationAt word n text at piece → FitsRelation n piece.value
@@ -88,6 +88,7 @@ module _ (A B : Automaton) (text : List ℕ) (first : stands_at included_line te
   up_is (Down both pairs) second h = absurd h
   up_is (Tree nodes) second h = absurd h
   up_is (UpTrail left right budget entries) second h = absurd h
+  up_is (DownTrail both budget entries) second h = absurd h
 
   down_is : (c : Certificate) → stands_at down_line text 9 ≡ true → IsDownBehind A B (drop 28 text) c → text ≡ certificate_text A B c
   unfolding down_text
@@ -99,6 +100,7 @@ module _ (A B : Automaton) (text : List ℕ) (first : stands_at included_line te
       ∙ sym (append_assoc head (relation_text both_word both) (pairs_text A B pairs.items))
   down_is (Tree nodes) second h = absurd h
   down_is (UpTrail left right budget entries) second h = absurd h
+  down_is (DownTrail both budget entries) second h = absurd h
 
   pub up_whole : (answer : Result Certificate CertError) → stands_at up_line text 9 ≡ true → IfOk answer (IsUpBehind A B (drop 26 text)) → IfOk answer (λ c. text ≡ certificate_text A B c)
   up_whole answer second h = IfOk-weaker answer (IsUpBehind A B (drop 26 text)) (λ c. text ≡ certificate_text A B c) (λ c. up_is c second) h

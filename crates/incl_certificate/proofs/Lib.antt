@@ -9,3 +9,7 @@ pub mod Failing
 pub mod Included
 pub mod Trailing
 pub mod Undecided
+pub mod RuleRanks
+pub mod Divided
+pub mod DownTrailing
+pub mod CanonListed

@@ -18,7 +18,13 @@ use Rattle.witness_trees.specs.Judged.{Is, BadAt, judged, then_judged}
 use Rattle.certificate_lines.specs.Lines.{stands_at}
 use Rattle.certificate_lines.specs.Pairs.{pairs_in, pairs_text}
 use Rattle.certificate_lines.specs.Relations.{relation_in, relation_text}
+use Rattle.tree_definitions.specs.Canonical.{canon}
+use Rattle.tree_definitions.specs.DownTrail.{DownEntry}
 use Rattle.tree_definitions.specs.UpTrail.{UpEntry}
+use Rattle.listed_pairs.specs.DownEntries.{entries_of}
+use Rattle.down_entry_lines.specs.Entries.{down_entries_text}
+use Rattle.down_entry_lines.specs.Fitting.{AreRanksNumbers}
+use Rattle.down_entry_lines.proofs.ReadBack.{down_entries_back}
 use Rattle.entry_lines.specs.Entries.{up_entries_text}
 use Rattle.entry_lines.proofs.ReadBack.{up_entries_back}
 use Rattle.certificate_lines.proofs.PairReadBack.{pairs_back}
@@ -27,10 +33,11 @@ use Rattle.certificate_lines.proofs.Starts.{starts_own}
 use Rattle.tree_definitions.specs.Cover.{Pair}
 use Rattle.tree_definitions.specs.Relation.{Matrix, IsSquare}
 use Rattle.witness_trees.proofs.ReadBack.{printed_back as nodes_back}
-use Rattle.incl_certificate.specs.Certificates.{Fits, FitsRelation, FitPairs, FitsUp, FitsDown, FitsTree, FitsUpTrail}
-use Rattle.incl_certificate.specs.Text.{Reads, SaidUp, SaidDown, SaidUpTrail, answer_line, undecided_line, up_trail_line, up_trail_text, behind_trail_left, behind_trail_right, judged_undecided, judged_up_trail, kind_line, included_line, up_line, down_line, left_word, right_word, both_word, up_text, down_text, tree_text, certificate_text, said_tree, behind_right, behind_left, behind_both, judged_tree, judged_up, judged_down, judged_included, judged_certificate, moved}
-use Rattle.incl_certificate.specs.declared.certificate.Certificate.{Certificate}
-use Rattle.incl_certificate.specs.declared.certificate.Certificate.TheVariants.{Up, Down, Tree, UpTrail}
+use Rattle.certificate_kinds.specs.Certificates.{Fits, FitsRelation, FitPairs, FitsUp, FitsDown, FitsTree, FitsUpTrail, FitsDownTrail}
+use Rattle.incl_certificate.specs.Text.{Reads, SaidUp, SaidDown, SaidUpTrail, SaidDownTrail, down_trail_line, down_trail_text, behind_trail_both, judged_down_trail, answer_line, undecided_line, up_trail_line, up_trail_text, behind_trail_left, behind_trail_right, judged_undecided, judged_up_trail, kind_line, included_line, up_line, down_line, left_word, right_word, both_word, up_text, down_text, tree_text, certificate_text, said_tree, behind_right, behind_left, behind_both, judged_tree, judged_up, judged_down, judged_included, judged_certificate, moved}
+use Rattle.certificate_kinds.specs.declared.certificate.Certificate.{Certificate}
+use Rattle.certificate_kinds.specs.declared.certificate.Certificate.TheVariants.{Up, Down, Tree, UpTrail, DownTrail}
+use Rattle.incl_certificate.proofs.CanonListed.{canon_listed}
 use Rattle.incl_certificate.proofs.Lines.{behind, is_behind}
 
 -- a text begins with its first part
@@ -202,7 +209,7 @@ trail_judged A B text rest e =
     ap (λ b. cond b (judged_included A B text) (cond (stands_at undecided_line text 0) (judged_undecided A B text) (said_tree (judged_tree A B text))))
     (ap (λ x. stands_at included_line x 0) e ∙ no_included (up_trail_line ++ rest))
     ∙ ap (λ b. cond b (judged_undecided A B text) (said_tree (judged_tree A B text))) (starts_there undecided_line (up_trail_line ++ rest) text 0 e)
-    ∙ ap (λ b. cond b (judged_up_trail A B text 33) (BadAt 10)) (starts_there up_trail_line rest text 10 (ap (drop 10) e))
+    ∙ ap (λ b. cond b (judged_up_trail A B text 33) (cond (stands_at down_trail_line text 10) (judged_down_trail A B text 35) (BadAt 10))) (starts_there up_trail_line rest text 10 (ap (drop 10) e))
 
 trail_lines_back : (A B : Automaton) (left right : Matrix) (budget : ℕ) (entries : List UpEntry) → IsListed A → IsListed B → FitsUpTrail A B left right budget entries → (text : List ℕ) (at : ℕ)
     → drop at text ≡ relation_text left_word left ++ (relation_text right_word right ++ up_entries_text A B budget entries) → judged_up_trail A B text at ≡ Is (SaidUpTrail left right budget entries)
@@ -224,8 +231,44 @@ up_trail_back A B left right budget entries a b fits =
     let e = trail_grouped A B left right budget entries in
     trail_judged A B text lines e ∙ trail_lines_back A B left right budget entries a b fits text 33 (ap (drop 33) e)
 
-pub printed_back : (A B : Automaton) (c : Certificate) → IsListed A → IsListed B → Fits A B c → Reads A B (Ok c) (judged_certificate A B (certificate_text A B c))
-printed_back A B (Up left right pairs) a b fits = up_back A B left right pairs.items a b fits
-printed_back A B (Down both pairs) a b fits = down_back A B both pairs.items a b fits
-printed_back A B (Tree nodes) a b fits = tree_first A B nodes ∙ ap said_tree (tree_back A B nodes a b fits)
-printed_back A B (UpTrail left right budget entries) a b fits = up_trail_back A B left right budget entries.items a b fits
+-- a downward trail's text, grouped from the right
+down_trail_grouped : (A B : Automaton) (both : Matrix) (budget : ℕ) (entries : List DownEntry)
+    → down_trail_text A B both budget entries ≡ undecided_line ++ (down_trail_line ++ (relation_text both_word both ++ down_entries_text (canon A) B budget entries))
+unfolding down_trail_text
+down_trail_grouped A B both budget entries = append_assoc (undecided_line ++ down_trail_line) (relation_text both_word both) (down_entries_text (canon A) B budget entries)
+
+no_up_trail : (rest : List ℕ) → stands_at up_trail_line (undecided_line ++ (down_trail_line ++ rest)) 10 ≡ false
+no_up_trail rest = refl
+
+down_trail_judged : (A B : Automaton) (text rest : List ℕ) → text ≡ undecided_line ++ (down_trail_line ++ rest) → judged_certificate A B text ≡ judged_down_trail A B text 35
+unfolding judged_certificate judged_undecided
+down_trail_judged A B text rest e =
+    ap (λ b. cond b (judged_included A B text) (cond (stands_at undecided_line text 0) (judged_undecided A B text) (said_tree (judged_tree A B text))))
+    (ap (λ x. stands_at included_line x 0) e ∙ no_included (down_trail_line ++ rest))
+    ∙ ap (λ b. cond b (judged_undecided A B text) (said_tree (judged_tree A B text))) (starts_there undecided_line (down_trail_line ++ rest) text 0 e)
+    ∙ ap (λ b. cond b (judged_up_trail A B text 33) (cond (stands_at down_trail_line text 10) (judged_down_trail A B text 35) (BadAt 10))) (ap (λ x. stands_at up_trail_line x 10) e ∙ no_up_trail rest)
+    ∙ ap (λ b. cond b (judged_down_trail A B text 35) (BadAt 10)) (starts_there down_trail_line rest text 10 (ap (drop 10) e))
+
+down_trail_lines_back : (A B : Automaton) (both : Matrix) (budget : ℕ) (entries : List DownEntry) → IsListed A → IsListed B → AreRanksNumbers A → FitsDownTrail A B both budget entries → (text : List ℕ) (at : ℕ)
+    → drop at text ≡ relation_text both_word both ++ down_entries_text (canon A) B budget entries → judged_down_trail A B text at ≡ Is (SaidDownTrail both budget entries)
+unfolding judged_down_trail
+down_trail_lines_back A B both budget entries a b ranks fits text at here =
+    let second = at + length (relation_text both_word both) in
+    let behind = behind_relation both_word (down_entries_text (canon A) B budget entries) text at both here in
+    ap (λ v. then_judged v (behind_trail_both A B text)) (fitting_back both_word (down_entries_text (canon A) B budget entries) text at (length A.states + length B.states) both fits.both here)
+    ∙ ap (λ v. then_judged v (λ found. Is (SaidDownTrail both found.budget found.entries))) (down_entries_back (canon A) B (canon_listed A a) b ranks budget entries fits.entries text second behind)
+
+down_trail_back : (A B : Automaton) (both : Matrix) (budget : ℕ) (entries : List DownEntry) → IsListed A → IsListed B → AreRanksNumbers A → FitsDownTrail A B both budget entries
+    → judged_certificate A B (down_trail_text A B both budget entries) ≡ Is (SaidDownTrail both budget entries)
+down_trail_back A B both budget entries a b ranks fits =
+    let text = down_trail_text A B both budget entries in
+    let lines = relation_text both_word both ++ down_entries_text (canon A) B budget entries in
+    let e = down_trail_grouped A B both budget entries in
+    down_trail_judged A B text lines e ∙ down_trail_lines_back A B both budget entries a b ranks fits text 35 (ap (drop 35) e)
+
+pub printed_back : (A B : Automaton) (c : Certificate) → IsListed A → IsListed B → AreRanksNumbers A → Fits A B c → Reads A B (Ok c) (judged_certificate A B (certificate_text A B c))
+printed_back A B (Up left right pairs) a b ranks fits = up_back A B left right pairs.items a b fits
+printed_back A B (Down both pairs) a b ranks fits = down_back A B both pairs.items a b fits
+printed_back A B (Tree nodes) a b ranks fits = tree_first A B nodes ∙ ap said_tree (tree_back A B nodes a b fits)
+printed_back A B (UpTrail left right budget entries) a b ranks fits = up_trail_back A B left right budget entries.items a b fits
+printed_back A B (DownTrail both budget entries) a b ranks fits = down_trail_back A B both budget (entries_of entries.items) a b ranks fits

@@ -6,11 +6,11 @@ use Rattle.std.proofs.lemmas.Option.{slice_get-get_or, slice_get_within}
 use Rattle.tree_definitions.specs.Automaton.{Automaton}
 use Rattle.tree_definitions.specs.Relation.{Matrix, IsAt}
 use Rattle.tree_definitions.specs.UpTrail.{UpEntry}
-use Rattle.entry_lines.specs.Fitting.{AreUpEntries, FitsUpEntry}
+use Rattle.certificate_kinds.specs.Fitting.{AreUpEntries, FitsUpEntry}
 use Rattle.tree_definitions.specs.Cover.{FitsPair}
 use Rattle.listed_pairs.specs.Within.{IsWithin}
 use Rattle.up_conditions.specs.Trailing.{AreEntriesWithin, FitEntries, NameEarlier}
-use Rattle.incl_certificate.specs.Certificates.{FitsUpTrail}
+use Rattle.certificate_kinds.specs.Certificates.{FitsUpTrail}
 
 -- what holds of each item at its place holds of each
 each : {X : Type 0} (P : X → Type 0) (xs : List X) → ((k : ℕ) (x : X) → IsAt xs k x → P x) → All P xs

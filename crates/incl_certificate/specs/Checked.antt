@@ -5,6 +5,7 @@ use Rattle.tree_definitions.specs.Automaton.{Automaton, HasRule, IsFinal}
 use Rattle.tree_definitions.specs.Canonical.{canon}
 use Rattle.tree_definitions.specs.Cover.{Pair, Post, Rejects}
 use Rattle.tree_definitions.specs.DownCert.{DownCert, IsCoveredDown}
+use Rattle.tree_definitions.specs.DownTrail.{DownEntry, IsDownStep, IsOpen, DownTrail as IsDownTrail}
 use Rattle.tree_definitions.specs.Joint.{JointRule}
 use Rattle.tree_definitions.specs.Language.{Included as IsIncluded}
 use Rattle.tree_definitions.specs.Relation.{Matrix, Row, IsAt, Holds as Relates}
@@ -12,16 +13,18 @@ use Rattle.tree_definitions.specs.Simulation.{IsUp, IsDown}
 use Rattle.tree_definitions.specs.UpCert.{UpCert, AreListed, IsCoveredUp as IsStepCovered}
 use Rattle.tree_definitions.specs.UpTrail.{UpEntry, IsUpStep, UpTrail as IsUpTrail}
 use Rattle.tree_definitions.specs.Witness.{NoCert}
+use Rattle.listed_pairs.specs.DownEntries.{entries_of}
 use Rattle.listed_pairs.specs.Places.{IsFirst, IsNth}
 use Rattle.up_conditions.specs.Covering.{IsUncoveredLeaf, IsUncoveredStep}
 use Rattle.up_conditions.specs.Listed.{IsCovered as IsCoveredUp}
 use Rattle.up_conditions.specs.Trailing.{IsNthAt, RejectsEntry, IsCoveredEntry}
 use Rattle.down_conditions.specs.Covering.{IsCovered as IsCoveredPair}
 use Rattle.down_conditions.specs.Refuting.{IsRefuted, IsSplitCovered}
+use Rattle.down_trails.specs.Keys.{RepeatsEntry}
 use Rattle.witness_trees.specs.Nodes.{NodeList}
 use Rattle.incl_certificate.specs.Trees.{IsAccepted}
-use Rattle.incl_certificate.specs.declared.certificate.Certificate.{Certificate}
-use Rattle.incl_certificate.specs.declared.certificate.Certificate.TheVariants.{Up, Down, Tree, UpTrail}
+use Rattle.certificate_kinds.specs.declared.certificate.Certificate.{Certificate}
+use Rattle.certificate_kinds.specs.declared.certificate.Certificate.TheVariants.{Up, Down, Tree, UpTrail, DownTrail}
 use Rattle.incl_certificate.specs.declared.checking.Verdict.{Verdict}
 use Rattle.incl_certificate.specs.declared.checking.Verdict.TheVariants.{Included, NotIncluded, Undecided}
 use Rattle.incl_certificate.specs.declared.checking.CheckError.{CheckError}
@@ -37,6 +40,7 @@ Holds A B (Up left right pairs) verdict = (verdict ≡ Included) × UpCert A B (
 Holds A B (Down both pairs) verdict = (verdict ≡ Included) × DownCert A B (Relates both) pairs.items
 Holds A B (Tree nodes) verdict = (verdict ≡ NotIncluded) × NoCert A B nodes.symbols nodes.rows
 Holds A B (UpTrail left right budget entries) verdict = (verdict ≡ Undecided) × IsUpTrail A B (Relates left) (Relates right) budget entries.items
+Holds A B (DownTrail both budget entries) verdict = (verdict ≡ Undecided) × IsDownTrail (canon A) B (Relates both) budget (entries_of entries.items)
 
 -- the relations are upward simulations
 pub record AreUp (A B : Automaton) (RA RB : Matrix) : Type 0 where
@@ -111,6 +115,24 @@ pub data FailsUpTrail (A B : Automaton) (left right : Matrix) (entries : List Up
   CoveredEntry : (n : ℕ) → AreUp A B left right → AreUpSteps A B entries → NoEntryRejects A B entries
       → IsFirst (IsNthAt entries (IsCoveredEntry (Relates left) (Relates right) entries)) n → FailsUpTrail A B left right entries 10 n
 
+-- each entry is one to begin with, a child of an earlier split, or a split of an earlier pair
+abbrev pub AreDownSteps : Automaton → Automaton → List DownEntry → Type 0
+AreDownSteps A B entries = (i : ℕ) (entry : DownEntry) → IsAt entries i entry → IsDownStep A B entries i entry
+
+-- the relation alone covers no entry
+abbrev pub AreOpen : Automaton → Automaton → Matrix → List DownEntry → Type 0
+AreOpen A B both entries = (i : ℕ) (entry : DownEntry) → IsAt entries i entry → IsOpen A B (Relates both) entries entry
+
+-- the same for a downward trail, where A is in canonical form.
+-- 1: the relation is a downward simulation of both together; 8: each entry is a step; 9: the relation alone covers none; 10: none is like an earlier one
+pub data FailsDownTrail (A B : Automaton) (both : Matrix) (entries : List DownEntry) : ℕ → ℕ → Type 0 where
+  BothTrailFails : ¬ IsDown (JointRule A B) (Relates both) → FailsDownTrail A B both entries 1 1
+  NoDownStep : (n : ℕ) → IsDown (JointRule A B) (Relates both) → IsFirst (IsNthAt entries (λ i entry. ¬ IsDownStep A B entries i entry)) n → FailsDownTrail A B both entries 8 n
+  CoveredAlone : (n : ℕ) → IsDown (JointRule A B) (Relates both) → AreDownSteps A B entries
+      → IsFirst (IsNthAt entries (λ i entry. ¬ IsOpen A B (Relates both) entries entry)) n → FailsDownTrail A B both entries 9 n
+  RepeatedEntry : (n : ℕ) → IsDown (JointRule A B) (Relates both) → AreDownSteps A B entries → AreOpen A B both entries
+      → IsFirst (IsNthAt entries (RepeatsEntry A B entries)) n → FailsDownTrail A B both entries 10 n
+
 -- condition 6: the tree is accepted by A. Condition 7: it isn't accepted by B. Both stand at the number of nodes
 pub data FailsTree (A B : Automaton) (nodes : NodeList) : ℕ → ℕ → Type 0 where
   Refused : ¬ IsAccepted A nodes → FailsTree A B nodes 6 (length nodes.rows)
@@ -122,6 +144,7 @@ FailsAt A B (Up left right pairs) condition place = FailsUp A B left right pairs
 FailsAt A B (Down both pairs) condition place = FailsDown A B both pairs.items condition place
 FailsAt A B (Tree nodes) condition place = FailsTree A B nodes condition place
 FailsAt A B (UpTrail left right budget entries) condition place = FailsUpTrail A B left right entries.items condition place
+FailsAt A B (DownTrail both budget entries) condition place = FailsDownTrail (canon A) B both (entries_of entries.items) condition place
 
 -- what is answered where a condition fails, unless memory ran out
 abbrev pub FailsFirst : Automaton → Automaton → Certificate → CheckError → Type 0

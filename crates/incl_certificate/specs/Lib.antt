@@ -1,6 +1,7 @@
 pub mod Joint
 pub mod Trees
-pub mod Certificates
 pub mod Text
 pub mod Checked
 pub mod Telling
+pub mod Preceding
+pub mod Dividing

@@ -1,14 +1,17 @@
 -- What a call of the reader answers, beside what the definitions say.
 use Rattle.std.specs.Prelude.{◌≡◌, ℕ, List, ◌++◌}
 use Rattle.tree_definitions.specs.Automaton.{Automaton}
+use Rattle.tree_definitions.specs.Canonical.{canon}
 use Rattle.certificate_lines.specs.Pairs.{pairs_text}
 use Rattle.certificate_lines.specs.Relations.{relation_text}
+use Rattle.down_entry_lines.specs.Entries.{down_entries_text}
 use Rattle.entry_lines.specs.Entries.{up_entries_text}
+use Rattle.listed_pairs.specs.DownEntries.{entries_of}
 use Rattle.witness_trees.specs.declared.reader.NodesTextError.{NodesTextError}
 use Rattle.witness_trees.specs.declared.reader.NodesTextError.TheVariants as lines
 use Rattle.incl_certificate.specs.Text.{left_word, right_word, both_word}
-use Rattle.incl_certificate.specs.declared.certificate.Certificate.{Certificate}
-use Rattle.incl_certificate.specs.declared.certificate.Certificate.TheVariants.{Up, Down, Tree, UpTrail}
+use Rattle.certificate_kinds.specs.declared.certificate.Certificate.{Certificate}
+use Rattle.certificate_kinds.specs.declared.certificate.Certificate.TheVariants.{Up, Down, Tree, UpTrail, DownTrail}
 use Rattle.incl_certificate.specs.declared.reading.CertError.{CertError}
 use Rattle.incl_certificate.specs.declared.reading.CertError.TheVariants.{BadText, UnknownName, Memory}
 
@@ -24,12 +27,14 @@ IsUpBehind A B text (Up left right pairs) = text ≡ relation_text left_word lef
 IsUpBehind A B text (Down both pairs) = ⊥
 IsUpBehind A B text (Tree nodes) = ⊥
 IsUpBehind A B text (UpTrail left right budget entries) = ⊥
+IsUpBehind A B text (DownTrail both budget entries) = ⊥
 
 abbrev pub IsDownBehind : Automaton → Automaton → List ℕ → Certificate → Type 0
 IsDownBehind A B text (Up left right pairs) = ⊥
 IsDownBehind A B text (Down both pairs) = text ≡ relation_text both_word both ++ pairs_text A B pairs.items
 IsDownBehind A B text (Tree nodes) = ⊥
 IsDownBehind A B text (UpTrail left right budget entries) = ⊥
+IsDownBehind A B text (DownTrail both budget entries) = ⊥
 
 abbrev pub IsUpTrailBehind : Automaton → Automaton → List ℕ → Certificate → Type 0
 IsUpTrailBehind A B text (Up left right pairs) = ⊥
@@ -37,3 +42,12 @@ IsUpTrailBehind A B text (Down both pairs) = ⊥
 IsUpTrailBehind A B text (Tree nodes) = ⊥
 IsUpTrailBehind A B text (UpTrail left right budget entries) =
     text ≡ relation_text left_word left ++ relation_text right_word right ++ up_entries_text A B budget entries.items
+IsUpTrailBehind A B text (DownTrail both budget entries) = ⊥
+
+abbrev pub IsDownTrailBehind : Automaton → Automaton → List ℕ → Certificate → Type 0
+IsDownTrailBehind A B text (Up left right pairs) = ⊥
+IsDownTrailBehind A B text (Down both pairs) = ⊥
+IsDownTrailBehind A B text (Tree nodes) = ⊥
+IsDownTrailBehind A B text (UpTrail left right budget entries) = ⊥
+IsDownTrailBehind A B text (DownTrail both budget entries) =
+    text ≡ relation_text both_word both ++ down_entries_text (canon A) B budget (entries_of entries.items)

@@ -2,7 +2,9 @@
 use Rattle.std.specs.Prelude.{◌≡◌, ℕ, ◌+◌, List, ◌++◌, length, take, drop, codes, if◌then◌else◌}
 use Rattle.std.specs.Str.{bytes_eq}
 use Rattle.tree_definitions.specs.Automaton.{Automaton}
+use Rattle.tree_definitions.specs.Canonical.{canon}
 use Rattle.tree_definitions.specs.Cover.{Pair}
+use Rattle.tree_definitions.specs.DownTrail.{DownEntry}
 use Rattle.tree_definitions.specs.Joint.{joint_symbols}
 use Rattle.tree_definitions.specs.Relation.{Matrix}
 use Rattle.tree_definitions.specs.UpTrail.{UpEntry}
@@ -13,11 +15,14 @@ use Rattle.witness_trees.specs.Judged.{Verdict, Is, BadAt, UnknownAt, judged, th
 use Rattle.certificate_lines.specs.Lines.{Piece, stands_at}
 use Rattle.certificate_lines.specs.Pairs.{pairs_in, pairs_text}
 use Rattle.certificate_lines.specs.Relations.{relation_in, relation_text}
-use Rattle.entry_lines.specs.Entries.{BudgetedEntries, up_entries_in, up_entries_text}
+use Rattle.certificate_lines.specs.Budgets.{Budgeted}
+use Rattle.down_entry_lines.specs.Entries.{down_entries_in, down_entries_text}
+use Rattle.entry_lines.specs.Entries.{up_entries_in, up_entries_text}
+use Rattle.listed_pairs.specs.DownEntries.{entries_of}
 use Rattle.std.specs.declared.result.Result.{Result}
 use Rattle.std.specs.Prelude.{Ok, Err}
-use Rattle.incl_certificate.specs.declared.certificate.Certificate.{Certificate}
-use Rattle.incl_certificate.specs.declared.certificate.Certificate.TheVariants.{Up, Down, Tree, UpTrail}
+use Rattle.certificate_kinds.specs.declared.certificate.Certificate.{Certificate}
+use Rattle.certificate_kinds.specs.declared.certificate.Certificate.TheVariants.{Up, Down, Tree, UpTrail, DownTrail}
 use Rattle.incl_certificate.specs.declared.reading.CertError.{CertError}
 use Rattle.incl_certificate.specs.declared.reading.CertError.TheVariants.{BadText, UnknownName, Memory}
 
@@ -42,6 +47,9 @@ undecided_line = codes "undecided\n"
 abbrev pub up_trail_line : List ℕ
 up_trail_line = codes "certificate 1 up-trail\n"
 
+abbrev pub down_trail_line : List ℕ
+down_trail_line = codes "certificate 1 down-trail\n"
+
 abbrev pub left_word : List ℕ
 left_word = codes "left"
 
@@ -61,6 +69,11 @@ unfoldable pub up_trail_text : Automaton → Automaton → Matrix → Matrix →
 up_trail_text A B left right budget entries =
     undecided_line ++ up_trail_line ++ relation_text left_word left ++ relation_text right_word right ++ up_entries_text A B budget entries
 
+-- rules are named by their places in A's canonical form
+unfoldable pub down_trail_text : Automaton → Automaton → Matrix → ℕ → List DownEntry → List ℕ
+down_trail_text A B both budget entries =
+    undecided_line ++ down_trail_line ++ relation_text both_word both ++ down_entries_text (canon A) B budget entries
+
 abbrev pub tree_text : NodeList → List ℕ
 tree_text nodes = answer_line ++ kind_line ++ nodes_text nodes
 
@@ -70,6 +83,7 @@ certificate_text A B (Up left right pairs) = up_text A B left right pairs.items
 certificate_text A B (Down both pairs) = down_text A B both pairs.items
 certificate_text A B (Tree nodes) = tree_text nodes
 certificate_text A B (UpTrail left right budget entries) = up_trail_text A B left right budget entries.items
+certificate_text A B (DownTrail both budget entries) = down_trail_text A B both budget (entries_of entries.items)
 
 -- the bytes count from a later place
 abbrev pub moved : {X : Type 0} → ℕ → Verdict X → Verdict X
@@ -91,6 +105,7 @@ pub data Said : Type 0 where
   SaidDown : (both : Matrix) (pairs : List Pair) → Said
   SaidTree : (nodes : List NodeRow) → Said
   SaidUpTrail : (left right : Matrix) (budget : ℕ) (entries : List UpEntry) → Said
+  SaidDownTrail : (both : Matrix) (budget : ℕ) (entries : List DownEntry) → Said
 
 abbrev pub said_tree : Verdict (List NodeRow) → Verdict Said
 said_tree (Is nodes) = Is (SaidTree nodes)
@@ -136,9 +151,20 @@ behind_trail_left A B text left = then_judged (relation_in right_word (length B.
 unfoldable pub judged_up_trail : Automaton → Automaton → List ℕ → ℕ → Verdict Said
 judged_up_trail A B text at = then_judged (relation_in left_word (length A.states) text at) (behind_trail_left A B text)
 
+-- the relation of a downward trail was read, and a budget and entries are due
+abbrev pub behind_trail_both : Automaton → Automaton → List ℕ → Piece Matrix → Verdict Said
+behind_trail_both A B text both = then_judged (down_entries_in (canon A) B text both.after) (λ found. Is (SaidDownTrail both.value found.budget found.entries))
+
+-- what stands behind the first two lines of a downward trail: a relation, a budget and entries
+unfoldable pub judged_down_trail : Automaton → Automaton → List ℕ → ℕ → Verdict Said
+judged_down_trail A B text at = then_judged (relation_in both_word (length A.states + length B.states) text at) (behind_trail_both A B text)
+
 -- what reading says behind the first line, which says that nothing was decided: the line of a kind, and what is due for it
 unfoldable pub judged_undecided : Automaton → Automaton → List ℕ → Verdict Said
-judged_undecided A B text = if stands_at up_trail_line text 10 then judged_up_trail A B text 33 else BadAt 10
+judged_undecided A B text =
+    if stands_at up_trail_line text 10 then judged_up_trail A B text 33
+    else if stands_at down_trail_line text 10 then judged_down_trail A B text 35
+    else BadAt 10
 
 -- what reading says of a text
 unfoldable pub judged_certificate : Automaton → Automaton → List ℕ → Verdict Said
@@ -160,6 +186,7 @@ said_of (Up left right pairs) = SaidUp left right pairs.items
 said_of (Down both pairs) = SaidDown both pairs.items
 said_of (Tree nodes) = SaidTree nodes.rows
 said_of (UpTrail left right budget entries) = SaidUpTrail left right budget entries.items
+said_of (DownTrail both budget entries) = SaidDownTrail both budget (entries_of entries.items)
 
 -- the answer is the verdict, unless memory ran out
 abbrev pub Reads : Automaton → Automaton → Result Certificate CertError → Verdict Said → Type 0

@@ -1,46 +1,18 @@
-//! Certificates, and which of them can be written for two automata.
+//! Which certificates can be written for two automata.
 
 ghost use Rattle.std.specs.Prelude.{◌≡◌, ◌<◌, ◌≤◌, ◌+◌, ◌↔◌, ℕ, All, IsTrue, length};
 ghost use Rattle.tree_definitions.specs.Cover.{FitsPair};
 ghost use Rattle.tree_definitions.specs.Relation.{IsAt};
 ghost use Rattle.tree_definitions.specs.UpTrail.{UpEntry as Entry};
-ghost use Rattle.entry_lines.specs.Fitting.{AreUpEntries, FitsUpEntry};
-ghost use Rattle.incl_certificate.specs.Certificates.{FitPairs, Fits, FitsRelation};
+ghost use Rattle.certificate_kinds.specs.Fitting.{AreUpEntries, FitsUpEntry};
+ghost use Rattle.certificate_kinds.specs.Certificates.{FitPairs, Fits, FitsRelation};
 
+use crate::down_fitting::down_entries_fit;
 use crate::joint::are_joint;
 use bit_matrix::Matrix;
+use certificate_kinds::Certificate;
 use listed_pairs::{Pair, UpEntry, are_rising};
 use ta_model::Listed;
-use witness_trees::Nodes;
-
-/// What shows an answer to inclusion.
-#[derive(Debug, Drop)]
-pub enum Certificate {
-    /// A relation of each automaton, and pairs that an upward search came to.
-    Up {
-        left: Matrix,
-        right: Matrix,
-        pairs: Vec<Pair>,
-    },
-    /// A relation on the states of both, those of the first and then those of the second, and pairs
-    /// that a downward search came to.
-    Down {
-        both: Matrix,
-        pairs: Vec<Pair>,
-    },
-    /// A tree, that of the last node, which the first automaton accepts and the second one doesn't.
-    Tree {
-        nodes: Nodes,
-    },
-    /// What an upward search came to within its budget: a relation of each automaton, and one entry
-    /// more than the budget. It decides nothing.
-    UpTrail {
-        left: Matrix,
-        right: Matrix,
-        budget: u64,
-        entries: Vec<UpEntry>,
-    },
-}
 
 /// Whether the relation is one between so many states.
 fn relation_fits(relation: &Matrix, states: usize) -> bool
@@ -50,7 +22,7 @@ fn relation_fits(relation: &Matrix, states: usize) -> bool
 }
 
 /// Whether the pair has a state of A and a set of states of B.
-fn pair_fits(a: &Listed, b: &Listed, pair: &Pair) -> bool
+pub(crate) fn pair_fits(a: &Listed, b: &Listed, pair: &Pair) -> bool
     ensures { IsTrue result ↔ FitsPair a.now b.now pair.now }
 {
     (pair.state as usize) < a.states().len() && pair.set.len() == b.states().len()
@@ -152,6 +124,14 @@ pub fn fits(a: &Listed, b: &Listed, c: &Certificate) -> bool
             relation_fits(left, a.states().len())
                 && relation_fits(right, b.states().len())
                 && entries_fit(a, b, *budget, entries)
+        }
+        Certificate::DownTrail {
+            both,
+            budget,
+            entries,
+        } => {
+            relation_fits(both, a.states().len() + b.states().len())
+                && down_entries_fit(a, b, *budget, entries)
         }
     }
 }

@@ -1,14 +1,15 @@
 //! The conditions of a certificate.
 
 ghost use Rattle.std.specs.Prelude.{IfOk, IfErr};
-ghost use Rattle.incl_certificate.specs.Certificates.{Fits};
+ghost use Rattle.certificate_kinds.specs.Certificates.{Fits};
 ghost use Rattle.incl_certificate.specs.Checked.{FailsFirst, Holds, MeansInclusion};
 
-use crate::certificate::Certificate;
+use crate::down_trail::check_down_trail;
 use crate::downward::check_down;
 use crate::tree::check_tree;
 use crate::up_trail::check_up_trail;
 use crate::upward::check_up;
+use certificate_kinds::Certificate;
 use std::alloc::{AllocError, Global};
 use ta_model::Listed;
 use thiserror::Error;
@@ -73,6 +74,14 @@ pub fn check(alloc: Global, a: &Listed, b: &Listed, c: &Certificate) -> Result<V
             entries,
         } => {
             check_up_trail(alloc, a, b, left, right, *budget, entries)?;
+            Ok(Verdict::Undecided)
+        }
+        Certificate::DownTrail {
+            both,
+            budget,
+            entries,
+        } => {
+            check_down_trail(alloc, a, b, both, *budget, entries)?;
             Ok(Verdict::Undecided)
         }
     }

@@ -2,12 +2,12 @@
 
 ghost use Rattle.std.specs.Prelude.{◌≡◌, ◌<◌, ◌≤◌, true, IfOk, drop, length};
 ghost use Rattle.certificate_lines.specs.Lines.{stands_at};
-ghost use Rattle.incl_certificate.specs.Certificates.{Fits};
+ghost use Rattle.certificate_kinds.specs.Certificates.{Fits};
 ghost use Rattle.incl_certificate.specs.Text.{Reads, certificate_text, included_line, judged_down, judged_included, judged_up};
 ghost use Rattle.incl_certificate.specs.Telling.{IsDownBehind, IsUpBehind, cert_error};
 
-use crate::certificate::Certificate;
 use crate::reading::CertError;
+use certificate_kinds::Certificate;
 use certificate_lines::{read_pairs, read_relation};
 use std::alloc::Global;
 use ta_model::Listed;

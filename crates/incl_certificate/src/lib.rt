@@ -4,11 +4,14 @@
 
 mod certificate;
 mod checking;
+mod down_fitting;
+mod down_trail;
 mod downward;
 mod inclusion_reading;
 mod joint;
 mod laws;
 mod printing;
+mod ranks;
 mod reading;
 mod tree;
 mod tree_reading;
@@ -16,7 +19,8 @@ mod undecided_reading;
 mod up_trail;
 mod upward;
 
-pub use certificate::{Certificate, fits};
+pub use certificate::fits;
+pub use certificate_kinds::Certificate;
 pub use checking::{CheckError, Verdict, check};
 pub use laws::printed_certificates_are_read_back;
 pub use printing::print;

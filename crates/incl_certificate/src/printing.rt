@@ -1,16 +1,19 @@
 //! The text of a certificate.
 
 ghost use Rattle.std.specs.Prelude.{◌≡◌, ◌<◌, All, IfOk, length};
+ghost use Rattle.tree_definitions.specs.Canonical.{canon};
 ghost use Rattle.tree_definitions.specs.Cover.{FitsPair};
-ghost use Rattle.entry_lines.specs.Fitting.{AreUpEntries};
-ghost use Rattle.incl_certificate.specs.Certificates.{Fits};
-ghost use Rattle.incl_certificate.specs.Text.{answer_line, certificate_text, down_text, kind_line, tree_text, up_text, up_trail_text};
+ghost use Rattle.listed_pairs.specs.DownEntries.{AreDownEntries, entries_of};
+ghost use Rattle.certificate_kinds.specs.Fitting.{AreUpEntries};
+ghost use Rattle.certificate_kinds.specs.Certificates.{Fits};
+ghost use Rattle.incl_certificate.specs.Text.{answer_line, certificate_text, down_text, down_trail_text, kind_line, tree_text, up_text, up_trail_text};
 
-use crate::certificate::Certificate;
 use bit_matrix::Matrix;
+use certificate_kinds::Certificate;
 use certificate_lines::{put_pairs, put_relation};
+use down_entry_lines::put_down_entries;
 use entry_lines::put_up_entries;
-use listed_pairs::{Pair, UpEntry};
+use listed_pairs::{DownEntry, Pair, UpEntry};
 use std::alloc::{AllocError, Global};
 use ta_model::Listed;
 use witness_trees::Nodes;
@@ -91,6 +94,27 @@ fn print_up_trail(
     Ok(text)
 }
 
+#[tactic(auto, unfolding(crate::specs::Text::down_trail_text))]
+fn print_down_trail(
+    alloc: Global,
+    a: &Listed,
+    b: &Listed,
+    both: &Matrix,
+    budget: u64,
+    entries: &[DownEntry],
+) -> Result<Vec<u8>, AllocError>
+    requires { AreDownEntries (canon a.now) b.now budget (entries_of entries.now) }
+    ensures { IfOk result (λ text. text.items ≡ down_trail_text a.now b.now both.now budget (entries_of entries.now)) }
+{
+    let canonical = a.canon()?;
+    let mut text = Vec::new(alloc);
+    text.extend_from_slice(b"undecided\n")?;
+    text.extend_from_slice(b"certificate 1 down-trail\n")?;
+    put_relation(&mut text, b"both", both)?;
+    put_down_entries(&mut text, &canonical, b, budget as u32, entries)?;
+    Ok(text)
+}
+
 fn print_tree(alloc: Global, nodes: &Nodes) -> Result<Vec<u8>, AllocError>
     requires { 0 < length nodes.now.rows }
     ensures { IfOk result (λ text. text.items ≡ tree_text nodes.now) }
@@ -118,5 +142,10 @@ pub fn print(alloc: Global, a: &Listed, b: &Listed, c: &Certificate) -> Result<V
             budget,
             entries,
         } => print_up_trail(alloc, a, b, left, right, *budget, entries),
+        Certificate::DownTrail {
+            both,
+            budget,
+            entries,
+        } => print_down_trail(alloc, a, b, both, *budget, entries),
     }
 }

@@ -1,13 +1,13 @@
 //! Reading a certificate.
 
 ghost use Rattle.std.specs.Prelude.{◌≡◌, ◌<◌, IfOk, length};
-ghost use Rattle.incl_certificate.specs.Certificates.{Fits};
+ghost use Rattle.certificate_kinds.specs.Certificates.{Fits};
 ghost use Rattle.incl_certificate.specs.Text.{Reads, certificate_text, judged_certificate};
 
-use crate::certificate::Certificate;
 use crate::inclusion_reading::read_included;
 use crate::tree_reading::read_tree;
 use crate::undecided_reading::read_undecided;
+use certificate_kinds::Certificate;
 use std::alloc::Global;
 use ta_model::Listed;
 use thiserror::Error;

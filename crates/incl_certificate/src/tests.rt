@@ -1,6 +1,6 @@
 //! A certificate is read, printed, judged; and texts that are none.
 
-use crate::{CertError, Certificate, CheckError, check, fits, print, read};
+use crate::{CertError, Certificate, CheckError, Verdict, check, fits, print, read};
 use smallvec::SmallVec;
 use std::alloc::Global;
 use std::process::Abort;
@@ -69,6 +69,46 @@ fn a_tree_of_both_refutes_nothing(rt: HostRuntime) -> Result<(), Fail> {
             place: 1
         })
     );
+    Ok(())
+}
+
+/// Each kind, for the automaton of one leaf and itself: it is read, fits, is printed byte for byte, and
+/// is judged.
+#[test]
+fn each_kind_is_printed_as_it_is_read(rt: HostRuntime) -> Result<(), Fail> {
+    let alloc = rt.alloc();
+    let a = only(alloc, b"a")?;
+    for (text, wanted) in [
+        (
+            b"included\ncertificate 1 up\nleft identity\nright identity\npairs 1\nr : r\n".as_slice(),
+            Ok(Verdict::Included),
+        ),
+        (
+            b"included\ncertificate 1 down\nboth identity\npairs 1\nr : r\n".as_slice(),
+            Ok(Verdict::Included),
+        ),
+        // The step of the leaf is the set of r and no empty one.
+        (
+            b"undecided\ncertificate 1 up-trail\nleft identity\nright identity\nbudget 1\nentries 2\nr : r : a\nr : : a\n".as_slice(),
+            Err(CheckError::Fails {
+                condition: 8,
+                place: 2,
+            }),
+        ),
+        // The leaf has a tuple under r, and the split no place for it.
+        (
+            b"undecided\ncertificate 1 down-trail\nboth identity\nbudget 1\nentries 2\npair r : r : root\nsplit 1 : a :\n".as_slice(),
+            Err(CheckError::Fails {
+                condition: 8,
+                place: 2,
+            }),
+        ),
+    ] {
+        let certificate = read_of(&rt, alloc, text, &a).expect(&rt, "a certificate");
+        assert!(rt; fits(&a, &a, &certificate));
+        assert_eq!(rt; print(alloc, &a, &a, &certificate)?.as_slice(), text);
+        assert_eq!(rt; check(alloc, &a, &a, &certificate), wanted);
+    }
     Ok(())
 }
 

@@ -1,7 +1,7 @@
 //! Reading the certificate that is a tree.
 
 ghost use Rattle.std.specs.Prelude.{◌≡◌, ◌<◌, IfOk, length};
-ghost use Rattle.incl_certificate.specs.Certificates.{FitsTree};
+ghost use Rattle.certificate_kinds.specs.Certificates.{FitsTree};
 ghost use Rattle.incl_certificate.specs.Text.{ReadsTree, judged_tree, tree_text};
 
 use crate::joint::joint_of;

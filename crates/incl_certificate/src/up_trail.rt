@@ -3,7 +3,7 @@
 ghost use Rattle.std.specs.Prelude.{ℕ, OnOk, IsErrOf};
 ghost use Rattle.tree_definitions.specs.Relation.{Holds};
 ghost use Rattle.tree_definitions.specs.UpTrail.{UpTrail};
-ghost use Rattle.incl_certificate.specs.Certificates.{FitsUpTrail};
+ghost use Rattle.certificate_kinds.specs.Certificates.{FitsUpTrail};
 ghost use Rattle.incl_certificate.specs.Checked.{AreUp, FailsUpTrail};
 
 use crate::checking::CheckError;

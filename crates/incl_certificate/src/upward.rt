@@ -4,7 +4,7 @@ ghost use Rattle.std.specs.Prelude.{ℕ, OnOk, IsErrOf};
 ghost use Rattle.tree_definitions.specs.Language.{Included};
 ghost use Rattle.tree_definitions.specs.Relation.{Holds};
 ghost use Rattle.tree_definitions.specs.UpCert.{UpCert};
-ghost use Rattle.incl_certificate.specs.Certificates.{FitsUp};
+ghost use Rattle.certificate_kinds.specs.Certificates.{FitsUp};
 ghost use Rattle.incl_certificate.specs.Checked.{AreUp, FailsUp};
 
 use crate::checking::CheckError;

@@ -1,10 +1,9 @@
 -- Why a run over files of automata has no answer, and what that excludes.
-use Rattle.std.proofs.Common.{◌≡◌, ◌⊎◌, ℕ, zero, suc, ◌<◌, ◌≤◌, List, [], ◌∷◌, length, Some, None, inl, inr, refl, sym, ap, ◌∙◌, subst, arith, IfSome}
+use Rattle.std.proofs.Common.{◌≡◌, ◌⊎◌, ℕ, zero, suc, ◌<◌, ◌≤◌, List, [], ◌∷◌, Some, None, inl, inr, refl, sym, ap, ◌∙◌, subst, arith, IfSome}
 use Rattle.std.specs.Prelude.{take, slice_get, unwrap_or}
 use Rattle.std.specs.declared.option.Option.{Option}
-use Rattle.std.specs.List.{AllZip}
 use Rattle.std.proofs.lemmas.Bool.{cases_order}
-use Rattle.vata_outside.specs.Outside.{File, IsMissing, Rose, Selects, bytes_of}
+use Rattle.vata_outside.specs.Outside.{File, IsMissing, Rose, Selects}
 use Rattle.tree_definitions.specs.Automaton.{Automaton}
 use Rattle.tree_definitions.specs.Relation.{IsAt}
 use Rattle.timbuk_definitions.specs.Place.{Limit as Count}
@@ -16,8 +15,8 @@ use Rattle.vata_core.specs.Files.{AreSpelled, ComesTo, IsBadAt, IsFileOf, IsOver
 use Rattle.vata_core.specs.Lines.{memory_line, read_line, syntax_line}
 use Rattle.vata_core.specs.Outcome.{FailsToRead, IsLimited, TooLong, Over, Past}
 use Rattle.vata_core.specs.Refusals.{AreUnread, IsCause, IsFileHalt, IsHaltAt, IsHalted, IsOperationHalt, halt_line, halt_status}
-use Rattle.vata_core.specs.declared.answering.Halt.{Halt}
-use Rattle.vata_core.specs.declared.answering.Halt.TheVariants as halt
+use Rattle.vata_core.specs.declared.halting.Halt.{Halt}
+use Rattle.vata_core.specs.declared.halting.Halt.TheVariants as halt
 use Rattle.vata_core.specs.declared.loading.Refusal.{Refusal}
 use Rattle.vata_core.specs.declared.loading.Refusal.TheVariants as refusal
 use Rattle.vata_core.specs.declared.status.Status.TheVariants as status
@@ -223,7 +222,7 @@ module _ (fs : List File) where
     bad_or_lost = clash Bad Lost (λ name b m. cc (m, b.1)) bad_ends lost_ends
 
     -- the files spell one list of automata
-    same_automata : (ns : List (List ℕ)) (As Bs : List Automaton) → AreSpelled (Some fs) ns As → AreSpelled (Some fs) ns Bs → As ≡ Bs
+    pub same_automata : (ns : List (List ℕ)) (As Bs : List Automaton) → AreSpelled (Some fs) ns As → AreSpelled (Some fs) ns Bs → As ≡ Bs
     same_automata [] [] [] s t = refl
     same_automata [] [] (B ∷ Bs) s t = absurd t
     same_automata [] (A ∷ As) Bs s t = absurd s

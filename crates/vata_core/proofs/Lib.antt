@@ -7,3 +7,4 @@ pub mod Halts
 pub mod Orders
 pub mod RelationLines
 pub mod Measures
+pub mod Meaning

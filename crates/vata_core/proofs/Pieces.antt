@@ -1,11 +1,11 @@
 -- A line that is written in pieces.
-use Rattle.std.proofs.Common.{◌≡◌, ◌≤◌, ℕ, ◌+◌, List, ◌++◌, length, take, inl, inr, ◌⊎◌, sym, subst, arith, length-append}
+use Rattle.std.proofs.Common.{◌≤◌, ℕ, ◌+◌, List, ◌++◌, length, take, inl, inr, sym, subst, arith, length-append}
 use Rattle.std.specs.declared.option.Option.{Option}
 use Rattle.std.specs.Io.KnownBytes.{Appends}
 use Rattle.std.proofs.KnownBytes.{Appends-trans}
 use Rattle.std.proofs.lemmas.List.{take-append-le}
 use Rattle.std.proofs.Math.Seq.{take-append-add}
-use Rattle.vata_outside.specs.Outside.{AppendsPrefix, Rose, next_count}
+use Rattle.vata_outside.specs.Outside.{AppendsPrefix, Rose}
 use Rattle.vata_core.specs.Lines.{Tells}
 
 -- a count that rose later rose from before

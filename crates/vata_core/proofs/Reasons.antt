@@ -8,7 +8,7 @@ use Rattle.incl_certificate.specs.Text.{Said}
 use Rattle.timbuk_definitions.specs.Place.{Limit}
 use Rattle.timbuk_text.specs.Taking.{limit_of}
 use Rattle.witness_trees.specs.Judged.{Verdict, Is, BadAt, UnknownAt}
-use Rattle.incl_certificate.specs.declared.certificate.Certificate.{Certificate}
+use Rattle.certificate_kinds.specs.declared.certificate.Certificate.{Certificate}
 use Rattle.vata_core.specs.CheckRequest.{CheckRequest, all_of, automata_of}
 use Rattle.vata_core.specs.Files.{AreSpelled, ComesTo, IsRefused, IsBadAt, IsOverAt, IsSpelled, IsTooLong, Told}
 use Rattle.vata_core.specs.Judgement.{HasJudgement, IsCertificateOf}

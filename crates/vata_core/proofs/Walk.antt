@@ -1,32 +1,32 @@
 -- The files of the checker are read in order, and the first that gives nothing ends the walk. Where the
 -- files are told, two ways to end exclude each other.
-use Rattle.std.proofs.Common.{◌≡◌, ◌⊎◌, ℕ, zero, suc, ◌<◌, ◌≤◌, List, [], ◌∷◌, length, Some, None, inl, inr, refl, sym, ap, ◌∙◌, subst, arith}
-use Rattle.std.specs.Prelude.{take, slice_get, unwrap_or, All, ◌^◌}
+use Rattle.std.proofs.Common.{◌≡◌, ℕ, zero, suc, ◌<◌, ◌≤◌, List, [], ◌∷◌, length, Some, refl, sym, ap, ◌∙◌, subst, arith}
+use Rattle.std.specs.Prelude.{unwrap_or, ◌^◌}
 use Rattle.std.proofs.lemmas.List.Elements.{All-from_recursion}
 use Rattle.tree_definitions.specs.Name.{IsName}
-use Rattle.std.specs.declared.option.Option.{Option}
-use Rattle.vata_outside.specs.Outside.{File, IsMissing, bytes_of}
+use Rattle.vata_outside.specs.Outside.{File, IsMissing}
 use Rattle.tree_definitions.specs.Automaton.{Automaton}
 use Rattle.ta_model.specs.Listing.{IsListed}
-use Rattle.witness_trees.specs.Judged.{Verdict, Is, BadAt, UnknownAt}
+use Rattle.witness_trees.specs.Judged.{Verdict, Is}
 use Rattle.timbuk_definitions.specs.Place.{Limit}
 use Rattle.timbuk_definitions.proofs.Spelled.{one_spelled}
 use Rattle.timbuk_definitions.proofs.BadPlaces.{no_file_with_bad_place}
 use Rattle.timbuk_definitions.proofs.Unlimited.{spelled_formed, spelled_named, spelled_small}
-use Rattle.incl_certificate.specs.Text.{Said, said_of, judged_certificate, certificate_text}
-use Rattle.incl_certificate.specs.declared.certificate.Certificate.{Certificate}
+use Rattle.incl_certificate.specs.Text.{Said, said_of, judged_certificate}
+use Rattle.certificate_kinds.specs.declared.certificate.Certificate.{Certificate}
+use Rattle.down_entry_lines.specs.Fitting.{AreRanksNumbers}
 use Rattle.incl_certificate.proofs.ReadBack.{printed_back}
 use Rattle.vata_core.specs.CheckRequest.{CheckRequest, all_of, automata_of}
-use Rattle.vata_core.specs.Files.{AreSpelled, ComesTo, IsBadAt, IsFileOf, IsOverAt, IsRefused, IsSpelled, IsTooLong, Told}
+use Rattle.vata_core.specs.Files.{AreSpelled, ComesTo, IsBadAt, IsFileOf, IsOverAt, IsSpelled, IsTooLong, Told}
 use Rattle.vata_core.specs.Judgement.{IsCertificateOf}
-use Rattle.vata_core.specs.NoCertificate.{IsNoCertificate, IsReadAs, IsTooLongAt, most_bytes}
+use Rattle.vata_core.specs.NoCertificate.{IsReadAs, IsTooLongAt, most_bytes}
 
 -- a text spells one automaton
 pub one_automaton : (bytes : List ℕ) (A B : Automaton) → IsFileOf A bytes → IsFileOf B bytes → A ≡ B
 one_automaton bytes A B a b = one_spelled bytes A B a.text b.text
 
 -- what a file spells is a listed automaton
-listed : (bytes : List ℕ) (A : Automaton) → IsFileOf A bytes → IsListed A
+pub listed : (bytes : List ℕ) (A : Automaton) → IsFileOf A bytes → IsListed A
 listed bytes A a =
     let names = spelled_named bytes A a.text a.within in
     let few = spelled_small bytes A a.text a.within in
@@ -39,6 +39,12 @@ listed bytes A a =
       few_states = omega (arith, few.few_states);
       few_rules = omega (arith, few.few_rules);
     }
+
+-- and its ranks are numbers of 64 bits
+ranked : (bytes : List ℕ) (A : Automaton) → IsFileOf A bytes → AreRanksNumbers A
+ranked bytes A a =
+    let names = spelled_named bytes A a.text a.within in
+    λ k d lt. (All-from_recursion (λ s. IsName s.name × (s.rank < 2 ^ 64)) A.symbols names.symbols k d lt).1
 
 -- ways in which the bytes of a file give no automaton
 abbrev pub IsBad : List ℕ → Type 0
@@ -218,5 +224,5 @@ module _ (fs : List File) (r : CheckRequest) where
   pub read_as : (A B : Automaton) (c : Certificate) → AreSpelled (Some fs) (automata_of r) (A ∷ B ∷ []) → Told (Some fs) r.certificate (IsCertificateOf A B c)
       → (said : Said) × Told (Some fs) r.certificate (IsReadAs A B (Is said))
   read_as A B c s t =
-      let back = printed_back A B c (listed s.0.0 A s.0.2) (listed s.1.0.0 B s.1.0.2) t.2.fits in
+      let back = printed_back A B c (listed s.0.0 A s.0.2) (listed s.1.0.0 B s.1.0.2) (ranked s.0.0 A s.0.2) t.2.fits in
       (said_of c, (t.0, t.1, record { short = t.2.short; judged = ap (judged_certificate A B) t.2.text ∙ back }))

@@ -10,17 +10,22 @@ use Rattle.tree_definitions.specs.Quotient.{IsGreatestDown}
 use Rattle.tree_definitions.specs.Relation.{Matrix}
 use Rattle.quotient.specs.Merged.{IsCanonicalQuotient}
 use Rattle.simulations.specs.Relations.{IsGreatestUp}
+use Rattle.certificate_kinds.specs.declared.certificate.Certificate.{Certificate}
+use Rattle.certificate_kinds.specs.declared.certificate.Certificate.TheVariants as kind
+use Rattle.incl_certificate.specs.Text.{certificate_text}
+use Rattle.upward_inclusion.specs.Inclusion.{IsInclusionAnswer}
 use Rattle.vata_words.specs.declared.request.Dir.{Dir}
 use Rattle.vata_words.specs.declared.request.Dir.TheVariants.{Up, Down}
-use Rattle.vata_core.specs.Request.{Request, Load, Union, Isect, Sim, Red}
+use Rattle.vata_core.specs.Request.{Request, Load, Union, Isect, Sim, Red, Incl}
 use Rattle.vata_core.specs.RelationText.{relation_text}
 use Rattle.vata_core.specs.declared.status.Status.{Status}
 use Rattle.vata_core.specs.declared.status.Status.TheVariants as status
 
--- an automaton; or the names of states, and a relation between them of one direction
+-- an automaton; the names of states, and a relation between them of one direction; or two automata, and a certificate for them
 pub data Answer : Type 0 where
   Listing : Automaton → Answer
   Related : (dir : Dir) (states : List (List ℕ)) (pairs : Matrix) → Answer
+  Shown : (first second : Automaton) (certificate : Certificate) → Answer
 
 -- P holds of the only automaton
 abbrev pub OfOne : (Automaton → Type 0) → List Automaton → Type 0
@@ -49,21 +54,39 @@ IsGreatest Down A m = IsGreatestDown A m
 abbrev pub IsRight : Request → List Automaton → Answer → Type 0
 IsRight (Load trim file) automata (Listing L) = OfOne (λ A. IsForm trim A L) automata
 IsRight (Load trim file) automata (Related dir states pairs) = ⊥
+IsRight (Load trim file) automata (Shown A B c) = ⊥
 IsRight (Union trim first second) automata (Listing L) = OfTwo (λ A B. (U : Automaton) × IsUnion A B U × IsForm trim U L) automata
 IsRight (Union trim first second) automata (Related dir states pairs) = ⊥
+IsRight (Union trim first second) automata (Shown A B c) = ⊥
 IsRight (Isect trim first second) automata (Listing L) = OfTwo (λ A B. (P : Automaton) × IsProduct A B P × IsForm trim P L) automata
 IsRight (Isect trim first second) automata (Related dir states pairs) = ⊥
+IsRight (Isect trim first second) automata (Shown A B c) = ⊥
 IsRight (Sim dir file) automata (Listing L) = ⊥
 IsRight (Sim dir file) automata (Related found states pairs) = OfOne (λ A. (found ≡ dir) × (states ≡ A.states) × IsGreatest dir A pairs) automata
+IsRight (Sim dir file) automata (Shown A B c) = ⊥
 IsRight (Red file) automata (Listing L) = OfOne (λ A. IsCanonicalQuotient A L) automata
 IsRight (Red file) automata (Related dir states pairs) = ⊥
+IsRight (Red file) automata (Shown A B c) = ⊥
+IsRight (Incl sim budget first second) automata (Listing L) = ⊥
+IsRight (Incl sim budget first second) automata (Related dir states pairs) = ⊥
+IsRight (Incl sim budget first second) automata (Shown A B c) = OfTwo (λ first second. (A ≡ first) × (B ≡ second) × IsInclusionAnswer sim budget A B c) automata
 
 -- the bytes that are written for an answer
 abbrev pub answer_text : Answer → List ℕ
 answer_text (Listing L) = plain_text L
 answer_text (Related dir states pairs) = relation_text dir states pairs
+answer_text (Shown A B c) = certificate_text A B c
+
+-- a tree says no, a trail nothing
+abbrev pub certificate_status : Certificate → Status
+certificate_status (kind.Up left right pairs) = status.Done
+certificate_status (kind.Down both pairs) = status.Done
+certificate_status (kind.Tree nodes) = status.No
+certificate_status (kind.UpTrail left right budget entries) = status.Undecided
+certificate_status (kind.DownTrail both budget entries) = status.Undecided
 
 -- the status of a run that wrote the answer
 abbrev pub status_of : Answer → Status
 status_of (Listing L) = status.Done
 status_of (Related dir states pairs) = status.Done
+status_of (Shown A B c) = certificate_status c

@@ -5,10 +5,10 @@ use Rattle.std.specs.Fmt.{decimal}
 use Rattle.std.specs.Io.KnownBytes.{Appends}
 use Rattle.vata_outside.specs.Outside.{AppendsPrefix, File}
 use Rattle.tree_definitions.specs.Automaton.{Automaton}
-use Rattle.incl_certificate.specs.Certificates.{Fits}
+use Rattle.certificate_kinds.specs.Certificates.{Fits}
 use Rattle.incl_certificate.specs.Checked.{FailsFirst, Holds}
 use Rattle.incl_certificate.specs.Text.{certificate_text}
-use Rattle.incl_certificate.specs.declared.certificate.Certificate.{Certificate}
+use Rattle.certificate_kinds.specs.declared.certificate.Certificate.{Certificate}
 use Rattle.incl_certificate.specs.declared.checking.Verdict.{Verdict}
 use Rattle.incl_certificate.specs.declared.checking.Verdict.TheVariants.{Included, NotIncluded, Undecided}
 use Rattle.incl_certificate.specs.declared.checking.CheckError.TheVariants.{Fails}

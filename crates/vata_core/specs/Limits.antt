@@ -1,11 +1,11 @@
 -- The limits of a command: what is counted, and when it is over its number.
-use Rattle.std.specs.Prelude.{◌<◌, ℕ, List, length}
+use Rattle.std.specs.Prelude.{◌<◌, ◌⊎◌, ℕ, List, length}
 use Rattle.tree_definitions.specs.Automaton.{Automaton}
 use Rattle.tree_definitions.specs.Joint.{joint_symbols}
 use Rattle.bool_ops.specs.Results.{HasMoreRules, HasMoreStates}
 use Rattle.quotient.specs.Merged.{HasMoreUseful}
 use Rattle.vata_core.specs.Answer.{OfOne, OfTwo}
-use Rattle.vata_core.specs.Request.{Request, Load, Union, Isect, Sim, Red}
+use Rattle.vata_core.specs.Request.{Request, Load, Union, Isect, Sim, Red, Incl}
 use Rattle.vata_core.specs.declared.measure.Measure.{Measure}
 use Rattle.vata_core.specs.declared.measure.Measure.TheVariants.{Symbols, Pairs, Rules, Relation}
 
@@ -43,6 +43,12 @@ ExceedsQuotient Pairs A = ⊥
 ExceedsQuotient Rules A = ⊥
 ExceedsQuotient Relation A = HasMoreUseful A 20000
 
+abbrev pub ExceedsInclusion : Measure → Automaton → Automaton → Type 0
+ExceedsInclusion Symbols A B = HasManySymbols A B
+ExceedsInclusion Pairs A B = ⊥
+ExceedsInclusion Rules A B = ⊥
+ExceedsInclusion Relation A B = (20000 < length A.states) ⊎ (20000 < length B.states)
+
 -- for these automata the request's measure is over its number
 abbrev pub Exceeds : Request → List Automaton → Measure → Type 0
 Exceeds (Load trim file) As what = ⊥
@@ -50,6 +56,7 @@ Exceeds (Union trim first second) As what = OfTwo (ExceedsUnion what) As
 Exceeds (Isect trim first second) As what = OfTwo (ExceedsProduct what) As
 Exceeds (Sim dir file) As what = OfOne (ExceedsSimulation what) As
 Exceeds (Red file) As what = OfOne (ExceedsQuotient what) As
+Exceeds (Incl sim budget first second) As what = OfTwo (ExceedsInclusion what) As
 
 -- of the measures that are over their numbers it is the first
 pub record IsFirstOver (Over : Measure → Type 0) (what : Measure) : Type 0 where

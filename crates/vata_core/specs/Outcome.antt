@@ -1,9 +1,10 @@
 -- How a run ends.
-use Rattle.std.specs.Prelude.{◌≡◌, ◌⊎◌, ℕ, List}
+use Rattle.std.specs.Prelude.{◌≡◌, ◌⊎◌, ◌<◌, ◌*◌, ◌^◌, ℕ, List, length}
 use Rattle.std.specs.declared.option.Option.{Option}
 use Rattle.std.specs.Io.KnownBytes.{Appends}
 use Rattle.vata_outside.specs.Outside.{AppendsPrefix, File, IsMissing, Rose}
 use Rattle.tree_definitions.specs.Automaton.{Automaton}
+use Rattle.tree_definitions.specs.Language.{Included}
 use Rattle.vata_core.specs.Request.{Request, files_of}
 use Rattle.vata_core.specs.Answer.{Answer, IsRight, answer_text, status_of}
 use Rattle.timbuk_definitions.specs.Place.{Limit as Counted}
@@ -68,3 +69,15 @@ pub data IsLimited (files : Option (List File)) (request : Request) : List ℕ �
   TooLong : (place : ℕ) → IsRefused files (files_of request) IsTooLong place → IsLimited files request (bytes_line place)
   Over : (place : ℕ) (what : Counted) (at : ℕ) → IsRefused files (files_of request) (IsOverAt what at) place → IsLimited files request (limit_line place what at)
   Past : (As : List Automaton) (what : Measure) → AreSpelled files (files_of request) As → IsPast request As what → IsLimited files request (measure_line what)
+
+-- what the end of a run that asks whether A is included in B means: yes; no; or nothing, and then the budget is less than the number of pairs of a state of A and a set of states of B
+abbrev pub MeansOfInclusion : Automaton → Automaton → ℕ → Status → Type 0
+MeansOfInclusion A B budget Done = Included A B
+MeansOfInclusion A B budget No = ¬ Included A B
+MeansOfInclusion A B budget Undecided = budget < length A.states * 2 ^ length B.states
+MeansOfInclusion A B budget Usage = Unit {0}
+MeansOfInclusion A B budget Syntax = Unit {0}
+MeansOfInclusion A B budget Limit = Unit {0}
+MeansOfInclusion A B budget ReadFault = Unit {0}
+MeansOfInclusion A B budget WriteFault = Unit {0}
+MeansOfInclusion A B budget Memory = Unit {0}

@@ -1,5 +1,5 @@
 -- What is told of files that give no answer.
-use Rattle.std.specs.Prelude.{◌≡◌, ◌⊎◌, ℕ, ◌<◌, List}
+use Rattle.std.specs.Prelude.{◌≡◌, ◌⊎◌, ℕ, ◌<◌, ◌≤◌, List}
 use Rattle.std.specs.declared.option.Option.{Option}
 use Rattle.vata_outside.specs.Outside.{File, IsMissing, Rose}
 use Rattle.tree_definitions.specs.Automaton.{Automaton}
@@ -11,10 +11,11 @@ use Rattle.vata_core.specs.Limits.{IsFirstOver, IsPast, IsWithin}
 use Rattle.vata_core.specs.Lines.{bytes_line, limit_line, measure_line, memory_line, name_line, read_line, syntax_line}
 use Rattle.vata_core.specs.NoCertificate.{IsNoCertificate, IsReadAs, IsTooLongAt}
 use Rattle.vata_core.specs.Outcome.{FailsToRead, HasAnswer}
-use Rattle.vata_core.specs.Answer.{Answer, answer_text}
-use Rattle.vata_core.specs.Request.{Request, Load, Union, Isect, Sim, Red, files_of}
-use Rattle.vata_core.specs.declared.answering.Halt.{Halt}
-use Rattle.vata_core.specs.declared.answering.Halt.TheVariants as halt
+use Rattle.vata_core.specs.Answer.{Answer, answer_text, status_of}
+use Rattle.vata_core.specs.Request.{Request, Load, Union, Isect, Sim, Red, Incl, files_of}
+use Rattle.vata_core.specs.declared.halting.Halt.{Halt}
+use Rattle.vata_core.specs.declared.halting.Halt.TheVariants as halt
+use Rattle.vata_core.specs.declared.halting.Reply.{Reply}
 use Rattle.vata_core.specs.declared.measure.Measure.{Measure}
 use Rattle.vata_core.specs.declared.words.Task.{Task}
 use Rattle.vata_core.specs.declared.words.Task.TheVariants as task
@@ -104,13 +105,24 @@ request_for (task.Union trim first second) = Union trim first.now second.now
 request_for (task.Isect trim first second) = Isect trim first.now second.now
 request_for (task.Sim dir file) = Sim dir file.now
 request_for (task.Red file) = Red file.now
+request_for (task.Incl sim budget first second) = Incl sim budget first.now second.now
 
--- the text is that of a right answer, and its automata keep the limits of a command
-pub record HasText (files : Option (List File)) (request : Request) (bytes : List ℕ) : Type 0 where
+-- a budget is from 1 to 1,000,000
+abbrev pub HasGoodBudget : Task → Type 0
+HasGoodBudget (task.Load trim file) = Unit {0}
+HasGoodBudget (task.Union trim first second) = Unit {0}
+HasGoodBudget (task.Isect trim first second) = Unit {0}
+HasGoodBudget (task.Sim dir file) = Unit {0}
+HasGoodBudget (task.Red file) = Unit {0}
+HasGoodBudget (task.Incl sim budget first second) = (1 ≤ budget) × (budget ≤ 1000000)
+
+-- the text and the status are those of a right answer, and its automata keep the limits of a command
+pub record HasReply (files : Option (List File)) (request : Request) (reply : Reply) : Type 0 where
   pub answer : Answer
   pub right : HasAnswer files request answer
   pub within : IsWithin request right.automata
-  pub text : bytes ≡ answer_text answer
+  pub text : reply.text.items ≡ answer_text answer
+  pub status_is : reply.status ≡ status_of answer
 
 -- why the file of that name, which is at a place, gives nothing. The first two hold automata
 abbrev pub IsReason : Option (List File) → List ℕ → (before now : ℕ) → ℕ → Refusal → Type 0

@@ -11,13 +11,16 @@ ghost use Rattle.quotient.specs.Merged.{IsCanonicalQuotient};
 ghost use Rattle.vata_core.specs.Answer.{IsForm, IsGreatest};
 ghost use Rattle.vata_core.specs.Files.{IsSpelled};
 ghost use Rattle.vata_core.specs.Limits.{ExceedsProduct, ExceedsQuotient, ExceedsSimulation, ExceedsUnion};
-ghost use Rattle.vata_core.specs.Refusals.{AreUnread, HasText, IsFileHalt, IsHalted, IsOperationHalt, request_for};
+ghost use Rattle.vata_core.specs.Refusals.{AreUnread, HasGoodBudget, HasReply, IsFileHalt, IsHalted, IsOperationHalt, request_for};
 ghost use Rattle.vata_core.specs.RelationText.{relation_text};
 ghost use Rattle.vata_core.specs.Request.{Isect, Load, Red, Sim, Union};
 
+use crate::halting::{Halt, Reply, no_memory};
+use crate::including::included;
 use crate::loading::{Refusal, automaton_of};
 use crate::matrix_text::text_of_relation;
 use crate::measure::Measure;
+use crate::status::Status;
 use crate::words::Task;
 use bit_matrix::Matrix;
 use bool_ops::{OpError, isect, union};
@@ -29,25 +32,6 @@ use ta_model::{Listed, PairError, Table};
 use trim_ops::trim;
 use vata_outside::Files;
 use vata_words::Dir;
-
-/// Why a run has no answer.
-#[derive(Clone, Copy, Debug, PartialEq, Eq)]
-pub enum Halt {
-    /// The file at this place, which counts from 0, gives no automaton, or can't be read; or memory ran
-    /// out.
-    File { place: u8, refusal: Refusal },
-    /// A count of the command is over its number.
-    Past { what: Measure },
-}
-
-fn no_memory() -> Halt
-    ensures { result ≡ Halt.File 0 Refusal.Memory }
-{
-    Halt::File {
-        place: 0,
-        refusal: Refusal::Memory,
-    }
-}
 
 /// The automaton of the file at a place.
 fn automaton_at<F: Files>(
@@ -210,7 +194,7 @@ fn quotient_of(alloc: Global, a: Listed) -> Result<Listed, Halt>
 }
 
 /// The automata of two files.
-fn two_automata<F: Files>(
+pub(crate) fn two_automata<F: Files>(
     alloc: Global,
     files: &mut F,
     first: &str,
@@ -235,9 +219,9 @@ fn two_automata<F: Files>(
 }
 
 /// The text of a file's automaton.
-fn loaded<F: Files>(alloc: Global, files: &mut F, trim: bool, file: &str) -> Result<Vec<u8>, Halt>
+fn loaded<F: Files>(alloc: Global, files: &mut F, trim: bool, file: &str) -> Result<Reply, Halt>
     ensures later { F.faults files.old ≤ F.faults files.new }
-    ensures ok { IfOk result (λ text. HasText (F.files files.old) (Load trim file.now) text.items) }
+    ensures ok { IfOk result (HasReply (F.files files.old) (Load trim file.now)) }
     ensures err { IfErr result (IsHalted (F.files files.old) (Load trim file.now) (F.faults files.old) (F.faults files.new)) }
 {
     let a = match automaton_at(alloc, files, file, 0) {
@@ -245,7 +229,10 @@ fn loaded<F: Files>(alloc: Global, files: &mut F, trim: bool, file: &str) -> Res
         Err(halt) => return Err(halt),
     };
     match text_of(alloc, a, trim) {
-        Ok(text) => Ok(text),
+        Ok(text) => Ok(Reply {
+            text,
+            status: Status::Done,
+        }),
         Err(_) => Err(no_memory()),
     }
 }
@@ -257,9 +244,9 @@ fn united<F: Files>(
     trim: bool,
     first: &str,
     second: &str,
-) -> Result<Vec<u8>, Halt>
+) -> Result<Reply, Halt>
     ensures later { F.faults files.old ≤ F.faults files.new }
-    ensures ok { IfOk result (λ text. HasText (F.files files.old) (Union trim first.now second.now) text.items) }
+    ensures ok { IfOk result (HasReply (F.files files.old) (Union trim first.now second.now)) }
     ensures err { IfErr result (IsHalted (F.files files.old) (Union trim first.now second.now) (F.faults files.old) (F.faults files.new)) }
 {
     let (a, b) = match two_automata(alloc, files, first, second) {
@@ -271,7 +258,10 @@ fn united<F: Files>(
         Err(halt) => return Err(halt),
     };
     match text_of(alloc, u, trim) {
-        Ok(text) => Ok(text),
+        Ok(text) => Ok(Reply {
+            text,
+            status: Status::Done,
+        }),
         Err(_) => Err(no_memory()),
     }
 }
@@ -283,9 +273,9 @@ fn intersected<F: Files>(
     trim: bool,
     first: &str,
     second: &str,
-) -> Result<Vec<u8>, Halt>
+) -> Result<Reply, Halt>
     ensures later { F.faults files.old ≤ F.faults files.new }
-    ensures ok { IfOk result (λ text. HasText (F.files files.old) (Isect trim first.now second.now) text.items) }
+    ensures ok { IfOk result (HasReply (F.files files.old) (Isect trim first.now second.now)) }
     ensures err { IfErr result (IsHalted (F.files files.old) (Isect trim first.now second.now) (F.faults files.old) (F.faults files.new)) }
 {
     let (a, b) = match two_automata(alloc, files, first, second) {
@@ -297,15 +287,18 @@ fn intersected<F: Files>(
         Err(halt) => return Err(halt),
     };
     match text_of(alloc, p, trim) {
-        Ok(text) => Ok(text),
+        Ok(text) => Ok(Reply {
+            text,
+            status: Status::Done,
+        }),
         Err(_) => Err(no_memory()),
     }
 }
 
 /// The text of the greatest simulation of a file's automaton.
-fn simulated<F: Files>(alloc: Global, files: &mut F, dir: Dir, file: &str) -> Result<Vec<u8>, Halt>
+fn simulated<F: Files>(alloc: Global, files: &mut F, dir: Dir, file: &str) -> Result<Reply, Halt>
     ensures later { F.faults files.old ≤ F.faults files.new }
-    ensures ok { IfOk result (λ text. HasText (F.files files.old) (Sim dir file.now) text.items) }
+    ensures ok { IfOk result (HasReply (F.files files.old) (Sim dir file.now)) }
     ensures err { IfErr result (IsHalted (F.files files.old) (Sim dir file.now) (F.faults files.old) (F.faults files.new)) }
 {
     let a = match automaton_at(alloc, files, file, 0) {
@@ -313,15 +306,18 @@ fn simulated<F: Files>(alloc: Global, files: &mut F, dir: Dir, file: &str) -> Re
         Err(halt) => return Err(halt),
     };
     match simulation_text(alloc, dir, a) {
-        Ok(text) => Ok(text),
+        Ok(text) => Ok(Reply {
+            text,
+            status: Status::Done,
+        }),
         Err(halt) => Err(halt),
     }
 }
 
 /// The text of the quotient of a file's automaton.
-fn reduced<F: Files>(alloc: Global, files: &mut F, file: &str) -> Result<Vec<u8>, Halt>
+fn reduced<F: Files>(alloc: Global, files: &mut F, file: &str) -> Result<Reply, Halt>
     ensures later { F.faults files.old ≤ F.faults files.new }
-    ensures ok { IfOk result (λ text. HasText (F.files files.old) (Red file.now) text.items) }
+    ensures ok { IfOk result (HasReply (F.files files.old) (Red file.now)) }
     ensures err { IfErr result (IsHalted (F.files files.old) (Red file.now) (F.faults files.old) (F.faults files.new)) }
 {
     let a = match automaton_at(alloc, files, file, 0) {
@@ -333,15 +329,19 @@ fn reduced<F: Files>(alloc: Global, files: &mut F, file: &str) -> Result<Vec<u8>
         Err(halt) => return Err(halt),
     };
     match timbuk_text::print(&quotient) {
-        Ok(text) => Ok(text),
+        Ok(text) => Ok(Reply {
+            text,
+            status: Status::Done,
+        }),
         Err(_) => Err(no_memory()),
     }
 }
 
 /// The text of the answer to a task.
-pub fn answer_to<F: Files>(alloc: Global, files: &mut F, task: Task) -> Result<Vec<u8>, Halt>
+pub fn answer_to<F: Files>(alloc: Global, files: &mut F, task: Task) -> Result<Reply, Halt>
+    requires { HasGoodBudget task }
     ensures later { F.faults files.old ≤ F.faults files.new }
-    ensures ok { IfOk result (λ text. HasText (F.files files.old) (request_for task.entry) text.items) }
+    ensures ok { IfOk result (HasReply (F.files files.old) (request_for task.entry)) }
     ensures err { IfErr result (IsHalted (F.files files.old) (request_for task.entry) (F.faults files.old) (F.faults files.new)) }
 {
     match task {
@@ -358,5 +358,11 @@ pub fn answer_to<F: Files>(alloc: Global, files: &mut F, task: Task) -> Result<V
         } => intersected(alloc, files, trim, first, second),
         Task::Sim { dir, file } => simulated(alloc, files, dir, file),
         Task::Red { file } => reduced(alloc, files, file),
+        Task::Incl {
+            sim,
+            budget,
+            first,
+            second,
+        } => included(alloc, files, sim, budget, first, second),
     }
 }

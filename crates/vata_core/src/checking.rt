@@ -4,7 +4,7 @@ ghost use Rattle.std.specs.Prelude.{◌≡◌, ◌≢◌, ◌⊎◌, ◌↔◌, 
 ghost use Rattle.std.specs.Io.KnownBytes.{Appends};
 ghost use Rattle.vata_outside.specs.Outside.{File, Rose};
 ghost use Rattle.tree_definitions.specs.Automaton.{Automaton};
-ghost use Rattle.incl_certificate.specs.declared.certificate.Certificate.{Certificate};
+ghost use Rattle.certificate_kinds.specs.declared.certificate.Certificate.{Certificate};
 ghost use Rattle.vata_core.specs.CheckRequest.{CheckRequest, all_of, automata_of, check_request_of, check_usage_line};
 ghost use Rattle.vata_core.specs.Files.{AreSpelled, Told};
 ghost use Rattle.vata_core.specs.Judgement.{IsCertificateOf, Judges, JudgesInPart, accepted_line, judgement_line, judgement_status, refused_line};

@@ -1,7 +1,7 @@
 //! Judging a certificate against two automata.
 
 ghost use Rattle.std.specs.Prelude.{◌≡◌, ◌<◌, ◌≤◌, length, IfOk, IfErr};
-ghost use Rattle.incl_certificate.specs.declared.certificate.Certificate.{Certificate};
+ghost use Rattle.certificate_kinds.specs.declared.certificate.Certificate.{Certificate};
 ghost use Rattle.vata_core.specs.Files.{IsSpelled, Told};
 ghost use Rattle.vata_core.specs.Judgement.{HasJudgement, IsCertificateOf, IsJudgement, judgement_line, judgement_status};
 ghost use Rattle.vata_core.specs.NoCertificate.{IsTooLongAt};

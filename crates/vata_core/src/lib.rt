@@ -4,6 +4,8 @@
 
 mod answering;
 mod checking;
+mod halting;
+mod including;
 mod judging;
 mod loading;
 mod matrix_text;

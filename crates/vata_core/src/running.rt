@@ -1,20 +1,21 @@
 //! The top call of `vata`.
 
-ghost use Rattle.std.specs.Prelude.{◌≡◌, ◌≢◌, ◌≤◌, ◌⊎◌, ◌↔◌, List, ℕ, None, Some, map, IfOk, IfErr, IfSome, IsErrOf, string_bytes, [], ◌∷◌};
+ghost use Rattle.std.specs.Prelude.{◌≡◌, ◌≢◌, ◌≤◌, ◌⊎◌, ◌↔◌, Bool, List, ℕ, None, Some, map, IfOk, IfErr, IfSome, IsErrOf, string_bytes, [], ◌∷◌};
 ghost use Rattle.std.specs.Io.KnownBytes.{Appends};
 ghost use Rattle.vata_outside.specs.Outside.{File, IsMissing, Rose};
 ghost use Rattle.tree_definitions.specs.Automaton.{Automaton};
 ghost use Rattle.tree_definitions.specs.Canonical.{canon};
 ghost use Rattle.timbuk_definitions.specs.Printed.{plain_text};
 ghost use Rattle.timbuk_text.specs.Taking.{limit_of};
-ghost use Rattle.vata_core.specs.Request.{Request, files_of, request_of, usage_line};
+ghost use Rattle.vata_core.specs.Request.{Request, Incl, files_of, request_of, usage_line};
 ghost use Rattle.vata_core.specs.Files.{AreSpelled, IsBadAt, IsOverAt, IsRefused, IsSpelled, IsTooLong, Told};
 ghost use Rattle.vata_core.specs.Lines.{Tells, memory_line, read_line, syntax_line, write_line};
 ghost use Rattle.vata_core.specs.Limits.{IsWithin};
-ghost use Rattle.vata_core.specs.Outcome.{Answers, AnswersInPart, FailsToRead, IsAnswered, IsLimited, IsSilent};
+ghost use Rattle.vata_core.specs.Outcome.{Answers, AnswersInPart, FailsToRead, IsAnswered, IsLimited, IsSilent, MeansOfInclusion};
 ghost use Rattle.vata_core.specs.Refusals.{halt_status, refusal_status};
 
-use crate::answering::{Halt, answer_to};
+use crate::answering::answer_to;
+use crate::halting::Halt;
 use crate::loading::Refusal;
 use crate::status::Status;
 use crate::telling::{tell_halt, tell_untaken, tell_write_fault};
@@ -98,6 +99,13 @@ pub fn run<F: Files, K: Sink, E: Sink>(
         → F.files files.old ≡ Some fs → AreSpelled (Some fs) (files_of request) As → IsWithin request As
         → ¬ Rose (F.faults files.old) (F.faults files.new) → ¬ Rose (K.faults out.old) (K.faults out.new)
         → IsAnswered result ⊎ (result ≡ Status.Memory) }
+
+    // Where the words ask whether A is included in B, a yes and a no are true, and nothing is decided only where
+    // the budget is less than the number of pairs of a state of A and a set of states of B.
+    ensures inclusion { (sim : Bool) (budget : ℕ) (first second : List ℕ) (fs : List File) (A B : Automaton)
+        → request_of (map string_bytes words.now) ≡ Some (Incl sim budget first second)
+        → F.files files.old ≡ Some fs → AreSpelled (Some fs) (first ∷ second ∷ []) (A ∷ B ∷ [])
+        → MeansOfInclusion A B budget result }
 {
     let task = match task_of(words) {
         Ok(task) => task,
@@ -106,15 +114,15 @@ pub fn run<F: Files, K: Sink, E: Sink>(
             return Status::Usage;
         }
     };
-    let text = match answer_to(alloc, files, task) {
-        Ok(text) => text,
+    let reply = match answer_to(alloc, files, task) {
+        Ok(reply) => reply,
         Err(halt) => {
             tell_halt(diag, halt);
             return halted(halt);
         }
     };
-    match write_all_of(out, &text) {
-        Ok(()) => Status::Done,
+    match write_all_of(out, &reply.text) {
+        Ok(()) => reply.status,
         Err(_) => {
             tell_write_fault(diag);
             Status::WriteFault

@@ -9,7 +9,7 @@ ghost use Rattle.vata_core.specs.Lines.{Tells, bytes_line, limit_line, limit_wor
 ghost use Rattle.vata_core.specs.Refusals.{halt_line, reason_line, refusal_line, untaken_line};
 ghost use Rattle.vata_core.specs.Usage.{fault_line, not_built_line};
 
-use crate::answering::Halt;
+use crate::halting::Halt;
 use crate::judging::Unjudged;
 use crate::loading::Refusal;
 use crate::measure::Measure;

@@ -3,7 +3,7 @@
 ghost use Rattle.std.specs.Prelude.{◌≡◌, map, string_bytes, Some, None, IfOk, IfErr};
 ghost use Rattle.vata_core.specs.CheckRequest.{check_request_of, check_usage_line};
 ghost use Rattle.vata_core.specs.Request.{request_of, usage_line};
-ghost use Rattle.vata_core.specs.Refusals.{request_for, untaken_line};
+ghost use Rattle.vata_core.specs.Refusals.{HasGoodBudget, request_for, untaken_line};
 ghost use Rattle.vata_core.specs.Usage.{fault_line};
 
 use vata_words::{Dir, Encoding, Request, WordFault};
@@ -40,12 +40,20 @@ pub enum Task<'a> {
     Red {
         file: &'a str,
     },
+    /// `budget` is from 1 to 1,000,000.
+    Incl {
+        sim: bool,
+        budget: u64,
+        first: &'a str,
+        second: &'a str,
+    },
 }
 
 /// What the words ask for. Takes no memory.
 #[tactic(auto, unfolding(crate::specs::Request::request_of, crate::specs::Request::usage_line))]
 pub fn task_of(words: &[String]) -> Result<Task<'_>, Untaken>
     ensures ok { IfOk result (λ task. request_of (map string_bytes words.now) ≡ Some (request_for task)) }
+    ensures budget { IfOk result HasGoodBudget }
     ensures err { IfErr result (λ untaken. (request_of (map string_bytes words.now) ≡ None)
         × (usage_line (map string_bytes words.now) ≡ untaken_line untaken)) }
 {
@@ -101,6 +109,21 @@ pub fn task_of(words: &[String]) -> Result<Task<'_>, Untaken>
             },
         ) => Ok(Task::Red {
             file: words[file].as_str(),
+        }),
+        Ok(
+            Request::Incl {
+                encoding: Encoding::Expl,
+                dir: Dir::Up,
+                sim,
+                budget,
+                first,
+                second,
+            },
+        ) => Ok(Task::Incl {
+            sim,
+            budget,
+            first: words[first].as_str(),
+            second: words[second].as_str(),
         }),
         Ok(_) => Err(Untaken::NotBuilt),
         Err(fault) => Err(Untaken::Fault(fault)),

@@ -327,3 +327,119 @@ fn upward_trails_are_judged(rt: HostRuntime) {
         ended(&rt, name, &ran, status, out, diag);
     }
 }
+
+/// A leaf below one unary symbol.
+const LEAF: &[u8] =
+    b"Ops a:0 g:1 Automaton leaf States p q Final States p Transitions a -> q g(q) -> p";
+
+const LEAF2: &[u8] =
+    b"Ops a:0 g:1 Automaton leaf States x y Final States x Transitions a -> y g(y) -> x";
+
+#[test]
+fn downward_trails_are_judged(rt: HostRuntime) {
+    let alloc = rt.alloc();
+    for (name, a, b, certificate, status, out, diag) in [
+        (
+            "a pair, a split and a child",
+            ALL,
+            ALL,
+            b"undecided\ncertificate 1 down-trail\nboth identity\nbudget 2\nentries 3\npair q : q : root\nsplit 1 : f(q,q) : 1\npair q : : child 2 2\n".as_slice(),
+            0,
+            b"accepted: undecided\n".as_slice(),
+            b"".as_slice(),
+        ),
+        (
+            "a relation that is none",
+            ALL,
+            ONLY,
+            b"undecided\ncertificate 1 down-trail\nboth rows\nc\n4\nbudget 1\nentries 2\npair q : r : root\nsplit 1 : f(q,q) :\n".as_slice(),
+            1,
+            b"refused: condition 1 place 1\n".as_slice(),
+            b"".as_slice(),
+        ),
+        (
+            "a root without the final states",
+            ALL,
+            ALL,
+            b"undecided\ncertificate 1 down-trail\nboth identity\nbudget 1\nentries 2\npair q : : root\nsplit 1 : f(q,q) :\n".as_slice(),
+            1,
+            b"refused: condition 8 place 1\n".as_slice(),
+            b"".as_slice(),
+        ),
+        (
+            "no place for the tuple",
+            ALL,
+            ALL,
+            b"undecided\ncertificate 1 down-trail\nboth identity\nbudget 1\nentries 2\npair q : q : root\nsplit 1 : f(q,q) :\n".as_slice(),
+            1,
+            b"refused: condition 8 place 2\n".as_slice(),
+            b"".as_slice(),
+        ),
+        (
+            "a child with members that were sent elsewhere",
+            ALL,
+            ALL,
+            b"undecided\ncertificate 1 down-trail\nboth identity\nbudget 2\nentries 3\npair q : q : root\nsplit 1 : f(q,q) : 1\npair q : : child 2 1\n".as_slice(),
+            1,
+            b"refused: condition 8 place 3\n".as_slice(),
+            b"".as_slice(),
+        ),
+        (
+            "a pair that the relation covers",
+            ALL,
+            ALL,
+            b"undecided\ncertificate 1 down-trail\nboth rows\nc\n4\nbudget 1\nentries 2\npair q : q : root\nsplit 1 : f(q,q) : 1\n".as_slice(),
+            1,
+            b"refused: condition 9 place 1\n".as_slice(),
+            b"".as_slice(),
+        ),
+        (
+            "a place that the relation covers",
+            LEAF,
+            LEAF2,
+            b"undecided\ncertificate 1 down-trail\nboth rows\n8\n5\n2\n1\nbudget 1\nentries 2\npair p : x : root\nsplit 1 : g(q) : 1\n".as_slice(),
+            1,
+            b"refused: condition 9 place 2\n".as_slice(),
+            b"".as_slice(),
+        ),
+        (
+            "a child that was the pair of the split",
+            ALL,
+            ALL,
+            b"undecided\ncertificate 1 down-trail\nboth identity\nbudget 2\nentries 3\npair q : q : root\nsplit 1 : f(q,q) : 1\npair q : q : child 2 1\n".as_slice(),
+            1,
+            b"refused: condition 10 place 3\n".as_slice(),
+            b"".as_slice(),
+        ),
+        (
+            "a child of a pair",
+            ALL,
+            ALL,
+            b"undecided\ncertificate 1 down-trail\nboth identity\nbudget 1\nentries 2\npair q : q : root\npair q : q : child 1 1\n".as_slice(),
+            4,
+            b"".as_slice(),
+            b"syntax: file 3 at 86\n".as_slice(),
+        ),
+        (
+            "a rule to another state",
+            AB,
+            X1,
+            b"undecided\ncertificate 1 down-trail\nboth identity\nbudget 1\nentries 2\npair p : x : root\nsplit 1 : b :\n".as_slice(),
+            4,
+            b"".as_slice(),
+            b"syntax: file 3 at 86\n".as_slice(),
+        ),
+        (
+            "an unknown symbol",
+            ALL,
+            ALL,
+            b"undecided\ncertificate 1 down-trail\nboth identity\nbudget 1\nentries 2\npair q : q : root\nsplit 1 : g(q,q) : 1\n".as_slice(),
+            4,
+            b"".as_slice(),
+            b"name: file 3 at 96\n".as_slice(),
+        ),
+    ] {
+        let ran = run_check(&rt, alloc, "a b c", over(a, b, certificate));
+        ended(&rt, name, &ran, status, out, diag);
+    }
+}

@@ -8,6 +8,8 @@ mod certificates;
 #[cfg(test)]
 mod checks;
 #[cfg(test)]
+mod inclusions;
+#[cfg(test)]
 mod loads;
 #[cfg(test)]
 mod running;

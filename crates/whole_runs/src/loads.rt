@@ -132,7 +132,7 @@ fn words_that_are_not_taken(rt: HostRuntime) {
         ("bench 0", b"usage: bad setting 2\n".as_slice()),
         ("load -r bdd a", b"usage: not built yet\n".as_slice()),
         ("sim -r bdd a", b"usage: not built yet\n".as_slice()),
-        ("incl a a", b"usage: not built yet\n".as_slice()),
+        ("incl -o dir=down a a", b"usage: not built yet\n".as_slice()),
     ] {
         let ran = run_vata(&rt, alloc, words, over(ALL, ALL, b""));
         ended(&rt, words, &ran, 2, b"", line);

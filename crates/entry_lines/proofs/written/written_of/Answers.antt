@@ -1,6 +1,6 @@
 use Rattle.std.proofs.Common.{◌≡◌, List, ℕ, Bor, Some, ◌-◌, take, map, ap, sym, ◌∙◌}
 use Rattle.certificate_lines.specs.Pairs.{spelled_words}
-use Rattle.entry_lines.proofs.Spans.{pair_span}
+use Rattle.certificate_lines.proofs.Spans.{pair_span}
 use Rattle.entry_lines.proofs.written.written_of.Goals as goal
 
 pub returns-in-Ok-call_of-clause-names : goal.returns-in-Ok-call_of-clause-names

@@ -1,7 +1,7 @@
 use Rattle.std.proofs.Common.{ℕ, ◌<◌}
 use Rattle.tree_definitions.specs.Relation.{IsAt}
 use Rattle.tree_definitions.specs.UpTrail.{UpEntry}
-use Rattle.entry_lines.specs.Fitting.{FitsUpEntry}
+use Rattle.certificate_kinds.specs.Fitting.{FitsUpEntry}
 use Rattle.incl_certificate.proofs.certificate.each_entry_fits.Given as goal
 
 -- each of the entries so far fits

@@ -14,5 +14,5 @@ returns-in-Ok-text_of-clause-ok g c =
     let both = c.in-Ok.both in
     let h = c.in-Ok-text_of.ensures in
     let p = c.in-Ok-product_of.ensures.ok in
-    product_text _ c.args.trim c.args.first.now c.args.second.now both.0 both.1 p.0 c.in-Ok-product_of.p h.0 c.in-Ok-text_of.text.items
+    product_text _ c.args.trim c.args.first.now c.args.second.now both.0 both.1 p.0 c.in-Ok-product_of.p h.0 c.in-Ok-text_of.text
     c.in-Ok.ensures.left c.in-Ok.ensures.right p.1 p.2 c.in-Ok-product_of.ensures.within h.1 h.2

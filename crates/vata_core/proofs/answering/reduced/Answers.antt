@@ -10,4 +10,4 @@ returns-in-Err-quotient_of-clause-err g c =
 
 pub returns-in-Ok-print-clause-ok : goal.returns-in-Ok-print-clause-ok
 returns-in-Ok-print-clause-ok g c =
-    quotient_text _ c.args.file.now c.in-Ok.a c.in-Ok-quotient_of.quotient c.in-Ok-print.text.items c.in-Ok.ensures.ok c.in-Ok-quotient_of.ensures.ok c.in-Ok-quotient_of.ensures.within c.in-Ok-print.ensures.text
+    quotient_text _ c.args.file.now c.in-Ok.a c.in-Ok-quotient_of.quotient c.in-Ok-print.text c.in-Ok.ensures.ok c.in-Ok-quotient_of.ensures.ok c.in-Ok-quotient_of.ensures.within c.in-Ok-print.ensures.text

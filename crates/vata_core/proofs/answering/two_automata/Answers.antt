@@ -1,7 +1,6 @@
 use Rattle.std.proofs.Common.{[], subst}
-use Rattle.vata_core.specs.Files.{IsSpelled}
 use Rattle.vata_core.specs.Refusals.{IsFileHalt}
-use Rattle.vata_core.proofs.Halts.{first_unread, second_unread}
+use Rattle.vata_core.proofs.Halts.{second_unread}
 use Rattle.vata_core.proofs.answering.two_automata.Goals as goal
 
 pub returns-in-Err-automaton_at-clause-err : goal.returns-in-Err-automaton_at-clause-err

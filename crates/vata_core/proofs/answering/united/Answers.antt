@@ -14,5 +14,5 @@ returns-in-Ok-text_of-clause-ok g c =
     let both = c.in-Ok.both in
     let h = c.in-Ok-text_of.ensures in
     let u = c.in-Ok-union_of.ensures.ok in
-    union_text _ c.args.trim c.args.first.now c.args.second.now both.0 both.1 u.0 c.in-Ok-union_of.u h.0 c.in-Ok-text_of.text.items
+    union_text _ c.args.trim c.args.first.now c.args.second.now both.0 both.1 u.0 c.in-Ok-union_of.u h.0 c.in-Ok-text_of.text
     c.in-Ok.ensures.left c.in-Ok.ensures.right u.1 u.2 c.in-Ok-union_of.ensures.within h.1 h.2

@@ -3,15 +3,16 @@ use Rattle.std.specs.Prelude.{unwrap_or}
 use Rattle.std.specs.declared.option.Option.{Option}
 use Rattle.std.specs.Io.KnownBytes.{Appends}
 use Rattle.vata_outside.specs.Outside.{AppendsPrefix, File}
-use Rattle.vata_core.specs.Request.{Request, files_of}
+use Rattle.vata_core.specs.Request.{Request, Incl, files_of}
 use Rattle.vata_core.specs.Answer.{answer_text}
 use Rattle.vata_core.specs.Files.{AreSpelled, IsBadAt, IsRefused}
 use Rattle.vata_core.specs.Lines.{Tells, memory_line, read_line, syntax_line}
-use Rattle.vata_core.specs.Outcome.{Answers, AnswersInPart, FailsToRead, IsLimited}
-use Rattle.vata_core.specs.Refusals.{HasText, IsHalted, halt_line, halt_status, request_for}
+use Rattle.vata_core.specs.Outcome.{Answers, AnswersInPart, FailsToRead, IsLimited, MeansOfInclusion}
+use Rattle.vata_core.specs.Refusals.{HasReply, IsHalted, halt_line, halt_status, request_for}
 use Rattle.vata_core.specs.declared.status.Status.TheVariants as status
-use Rattle.vata_core.proofs.Answered.{answers, answers_in_part}
+use Rattle.vata_core.proofs.Answered.{answers, answers_in_part, is_answered, not_other, not_silent}
 use Rattle.vata_core.proofs.Halts.{bad_file, bad_or_spelled, limit_due, limited, limited_or_spelled, memory_told, nothing_wrong, syntax_due, unread_file}
+use Rattle.vata_core.proofs.Meaning.{halt_means, reply_means}
 use Rattle.vata_core.proofs.running.run.Goals as goal
 
 -- what was asked for is one request
@@ -62,7 +63,7 @@ returns-in-Err-answer_to-clause-complete g c = λ request fs As asked told spell
 pub returns-in-Ok-write_all_of-clause-answered : goal.returns-in-Ok-write_all_of-clause-answered
 returns-in-Ok-write_all_of-clause-answered g c = λ _.
     let found = c.in-Ok-answer_to.ensures.ok in
-    subst (λ asked. IfSome asked (Answers (g.F.Files.files c.args.files.now) (g.K.Sink.written c.args.out.now) (g.K.Sink.written c.write_all_of.new.sink) status.Done)) (sym c.in-Ok.ensures.ok)
+    subst (λ asked. IfSome asked (Answers (g.F.Files.files c.args.files.now) (g.K.Sink.written c.args.out.now) (g.K.Sink.written c.write_all_of.new.sink) c.in-Ok-answer_to.reply.status)) (sym c.in-Ok.ensures.ok)
     (answers found (subst (Appends (g.K.Sink.written c.args.out.now) (g.K.Sink.written c.write_all_of.new.sink)) c.deref.ensures.value c.in-Ok-write_all_of.ensures.ok))
 
 pub returns-clause-cut : goal.returns-clause-cut
@@ -73,28 +74,76 @@ returns-clause-cut g c = λ _.
 
 pub returns-in-Ok-write_all_of-clause-syntax_due : goal.returns-in-Ok-write_all_of-clause-syntax_due
 returns-in-Ok-write_all_of-clause-syntax_due g c = λ request fs place at asked told bad calm.
-    let right : HasText (Some fs) request c.in-Ok-answer_to.text.items =
-    subst (λ files. HasText files request c.in-Ok-answer_to.text.items) told
-    (subst (λ r. HasText (g.F.Files.files c.args.files.now) r c.in-Ok-answer_to.text.items) (one_request _ _ request c.in-Ok.ensures.ok asked) c.in-Ok-answer_to.ensures.ok) in
+    let right : HasReply (Some fs) request c.in-Ok-answer_to.reply =
+    subst (λ files. HasReply files request c.in-Ok-answer_to.reply) told
+    (subst (λ r. HasReply (g.F.Files.files c.args.files.now) r c.in-Ok-answer_to.reply) (one_request _ _ request c.in-Ok.ensures.ok asked) c.in-Ok-answer_to.ensures.ok) in
     absurd (bad_or_spelled fs request right.right.automata place at right.right.spelled bad)
 
 pub returns-clause-syntax_due : goal.returns-clause-syntax_due
 returns-clause-syntax_due g c = λ request fs place at asked told bad calm.
-    let right : HasText (Some fs) request c.in-Ok-answer_to.text.items =
-    subst (λ files. HasText files request c.in-Ok-answer_to.text.items) told
-    (subst (λ r. HasText (g.F.Files.files c.args.files.now) r c.in-Ok-answer_to.text.items) (one_request _ _ request c.in-Ok.ensures.ok asked) c.in-Ok-answer_to.ensures.ok) in
+    let right : HasReply (Some fs) request c.in-Ok-answer_to.reply =
+    subst (λ files. HasReply files request c.in-Ok-answer_to.reply) told
+    (subst (λ r. HasReply (g.F.Files.files c.args.files.now) r c.in-Ok-answer_to.reply) (one_request _ _ request c.in-Ok.ensures.ok asked) c.in-Ok-answer_to.ensures.ok) in
     absurd (bad_or_spelled fs request right.right.automata place at right.right.spelled bad)
 
 pub returns-in-Ok-write_all_of-clause-limit_due : goal.returns-in-Ok-write_all_of-clause-limit_due
 returns-in-Ok-write_all_of-clause-limit_due g c = λ request fs line asked told beyond calm.
-    let right : HasText (Some fs) request c.in-Ok-answer_to.text.items =
-    subst (λ files. HasText files request c.in-Ok-answer_to.text.items) told
-    (subst (λ r. HasText (g.F.Files.files c.args.files.now) r c.in-Ok-answer_to.text.items) (one_request _ _ request c.in-Ok.ensures.ok asked) c.in-Ok-answer_to.ensures.ok) in
+    let right : HasReply (Some fs) request c.in-Ok-answer_to.reply =
+    subst (λ files. HasReply files request c.in-Ok-answer_to.reply) told
+    (subst (λ r. HasReply (g.F.Files.files c.args.files.now) r c.in-Ok-answer_to.reply) (one_request _ _ request c.in-Ok.ensures.ok asked) c.in-Ok-answer_to.ensures.ok) in
     absurd (limited_or_spelled fs request right.right.automata line right.right.spelled right.within beyond)
 
 pub returns-clause-limit_due : goal.returns-clause-limit_due
 returns-clause-limit_due g c = λ request fs line asked told beyond calm.
-    let right : HasText (Some fs) request c.in-Ok-answer_to.text.items =
-    subst (λ files. HasText files request c.in-Ok-answer_to.text.items) told
-    (subst (λ r. HasText (g.F.Files.files c.args.files.now) r c.in-Ok-answer_to.text.items) (one_request _ _ request c.in-Ok.ensures.ok asked) c.in-Ok-answer_to.ensures.ok) in
+    let right : HasReply (Some fs) request c.in-Ok-answer_to.reply =
+    subst (λ files. HasReply files request c.in-Ok-answer_to.reply) told
+    (subst (λ r. HasReply (g.F.Files.files c.args.files.now) r c.in-Ok-answer_to.reply) (one_request _ _ request c.in-Ok.ensures.ok asked) c.in-Ok-answer_to.ensures.ok) in
     absurd (limited_or_spelled fs request right.right.automata line right.right.spelled right.within beyond)
+
+pub returns-in-Ok-write_all_of-clause-cut : goal.returns-in-Ok-write_all_of-clause-cut
+returns-in-Ok-write_all_of-clause-cut g c = λ e. absurd (not_other status.WriteFault c.in-Ok-answer_to.ensures.ok e)
+
+pub returns-in-Ok-write_all_of-clause-syntax : goal.returns-in-Ok-write_all_of-clause-syntax
+returns-in-Ok-write_all_of-clause-syntax g c = λ e. absurd (not_other status.Syntax c.in-Ok-answer_to.ensures.ok e)
+
+pub returns-in-Ok-write_all_of-clause-limit : goal.returns-in-Ok-write_all_of-clause-limit
+returns-in-Ok-write_all_of-clause-limit g c = λ e. absurd (not_other status.Limit c.in-Ok-answer_to.ensures.ok e)
+
+pub returns-in-Ok-write_all_of-clause-read : goal.returns-in-Ok-write_all_of-clause-read
+returns-in-Ok-write_all_of-clause-read g c = λ e. absurd (not_other status.ReadFault c.in-Ok-answer_to.ensures.ok e)
+
+pub returns-in-Ok-write_all_of-clause-write : goal.returns-in-Ok-write_all_of-clause-write
+returns-in-Ok-write_all_of-clause-write g c = λ e. absurd (not_other status.WriteFault c.in-Ok-answer_to.ensures.ok e)
+
+pub returns-in-Ok-write_all_of-clause-usage_told : goal.returns-in-Ok-write_all_of-clause-usage_told
+returns-in-Ok-write_all_of-clause-usage_told g c = λ e. absurd (not_other status.Usage c.in-Ok-answer_to.ensures.ok e)
+
+pub returns-in-Ok-write_all_of-clause-write_told : goal.returns-in-Ok-write_all_of-clause-write_told
+returns-in-Ok-write_all_of-clause-write_told g c = λ e. absurd (not_other status.WriteFault c.in-Ok-answer_to.ensures.ok e)
+
+pub returns-in-Ok-write_all_of-clause-memory_told : goal.returns-in-Ok-write_all_of-clause-memory_told
+returns-in-Ok-write_all_of-clause-memory_told g c = λ e. absurd (not_other status.Memory c.in-Ok-answer_to.ensures.ok e)
+
+pub returns-in-Ok-write_all_of-clause-silent : goal.returns-in-Ok-write_all_of-clause-silent
+returns-in-Ok-write_all_of-clause-silent g c = λ q. absurd (not_silent c.in-Ok-answer_to.reply.status (is_answered c.in-Ok-answer_to.ensures.ok) q)
+
+pub returns-in-Ok-write_all_of-clause-usage : goal.returns-in-Ok-write_all_of-clause-usage
+returns-in-Ok-write_all_of-clause-usage g c = (
+  λ e. absurd (not_other status.Usage c.in-Ok-answer_to.ensures.ok e),
+  λ none. let asked = c.in-Ok.ensures.ok in cc (none, asked),
+)
+
+pub returns-in-Ok-write_all_of-clause-complete : goal.returns-in-Ok-write_all_of-clause-complete
+returns-in-Ok-write_all_of-clause-complete g c = λ request fs As asked told spelled within calm still. inl (is_answered c.in-Ok-answer_to.ensures.ok)
+
+pub returns-in-Err-answer_to-clause-inclusion : goal.returns-in-Err-answer_to-clause-inclusion
+returns-in-Err-answer_to-clause-inclusion g c = λ sim budget first second fs A B asked told spelled.
+    subst (MeansOfInclusion A B budget) (sym c.halted.ensures) (halt_means A B budget c.in-Err-answer_to.halt)
+
+pub returns-in-Ok-write_all_of-clause-inclusion : goal.returns-in-Ok-write_all_of-clause-inclusion
+returns-in-Ok-write_all_of-clause-inclusion g c = λ sim budget first second fs A B asked told spelled.
+    let request = Incl sim budget first second in
+    let right : HasReply (Some fs) request c.in-Ok-answer_to.reply =
+    subst (λ files. HasReply files request c.in-Ok-answer_to.reply) told
+    (subst (λ r. HasReply (g.F.Files.files c.args.files.now) r c.in-Ok-answer_to.reply) (one_request _ _ request c.in-Ok.ensures.ok asked) c.in-Ok-answer_to.ensures.ok) in
+    reply_means fs sim budget first second A B c.in-Ok-answer_to.reply right spelled

@@ -1,0 +1,14 @@
+mod Marks
+mod Views
+mod Sets
+mod Grouped
+mod Covered
+mod Numbers
+mod Pruned
+mod Listed
+mod Stepping
+mod Adding
+mod Choosing
+mod Running
+mod Joined
+mod Ending

@@ -1,0 +1,5 @@
+pub mod Answers
+pub mod ByState
+pub mod Entries
+pub mod Orders
+pub mod SearchState

@@ -1,0 +1,10 @@
+pub mod Ruled
+pub mod Viewed
+pub mod Wording
+pub mod Ranks
+pub mod Capping
+pub mod Standing
+pub mod Inverse
+pub mod Printed
+pub mod ReadBack
+pub mod Samples

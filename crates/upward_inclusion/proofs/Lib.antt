@@ -1,0 +1,3 @@
+mod Canonical
+mod Identity
+pub mod Meaning
