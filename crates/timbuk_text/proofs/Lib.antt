@@ -11,4 +11,6 @@ pub mod Valued
 pub mod Stopped
 pub mod Turned
 pub mod Judged
+pub mod Kept
+pub mod Lines
 pub mod Printed

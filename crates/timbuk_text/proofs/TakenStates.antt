@@ -20,6 +20,7 @@ use Rattle.timbuk_definitions.proofs.Firsts.{one_place, first_distinct}
 use Rattle.timbuk_definitions.proofs.Spelled.{symbol_decides, rule_decides, rule_unique}
 use Rattle.timbuk_definitions.proofs.Formed.{rule_functional, zip_length}
 use Rattle.timbuk_text.specs.declared.table.Action.{Action}
+use Rattle.timbuk_text.specs.Rules.{Puts}
 use Rattle.timbuk_text.specs.Store.{Store, HasItems, IsFew}
 use Rattle.timbuk_text.specs.Taking.{IsRuleRead, item, Adds, Takes, IsLeast, Passes, Interns, line_read}
 use Rattle.timbuk_text.proofs.Listed.{with_option, at_new, zip_new, zip_left, zip_right, firsts_push}
@@ -204,8 +205,8 @@ module _ (old : Store) (w : List ℕ) (states : List (List ℕ)) (q : ℕ) (s : 
   not_long : length w ≤ 1000 → ¬ TooLong r.parent
   not_long short = subst (λ n. ¬ TooLong n) (sym read.parent) (long w short)
 
-  parent_adds : (rules : List Rule) (j : ℕ) → length w ≤ 1000 → Interns same_line 2000000 old.rules rules (line_read old q) j → Adds old (with_rule old states rules) items parent
-  parent_adds rules j short u = record {
+  parent_adds : (rules : List Rule) → length w ≤ 1000 → Puts old.rules rules (line_read old q) → Adds old (with_rule old states rules) items parent
+  parent_adds rules short u = record {
     lists = pushed old (with_rule old states rules) items parent h (record {
       title = refl;
       one_title = λ v e. absurd cc;
@@ -222,10 +223,10 @@ module _ (old : Store) (w : List ℕ) (states : List (List ℕ)) (q : ℕ) (s : 
   parent_least short full = rules_least items parent (r, refl, rules_full full) (one_some TooLong r.parent (not_long short)) (λ o. o) (no_some (IsFull 65535 (symbols_of items)))
       (one_some (IsFull 1000000 (states_of items)) r.parent states_room)
 
-pub parent_taken : (old : Store) (w : List ℕ) (states : List (List ℕ)) (q : ℕ) (rules : List Rule) (j : ℕ) → length w ≤ 1000 → Interns bytes_eq 1000000 old.states states w q
-    → Interns (eq_by_cmp rule_cmp) 2000000 old.rules rules (line_read old q) j → IsFew old → Takes Action.Parent w old (with_rule old states rules)
-parent_taken old w states q rules j short s u few = record {
-  adds = λ items t role says h. subst (λ r. Adds old (with_rule old states rules) items (item t r)) (sym says.1) (parent_adds old w states q s items t h says.0 says.2 rules j short u);
+pub parent_taken : (old : Store) (w : List ℕ) (states : List (List ℕ)) (q : ℕ) (rules : List Rule) → length w ≤ 1000 → Interns bytes_eq 1000000 old.states states w q
+    → Puts old.rules rules (line_read old q) → IsFew old → Takes Action.Parent w old (with_rule old states rules)
+parent_taken old w states q rules short s u few = record {
+  adds = λ items t role says h. subst (λ r. Adds old (with_rule old states rules) items (item t r)) (sym says.1) (parent_adds old w states q s items t h says.0 says.2 rules short u);
   after = tt;
   grows = grows old w states q s;
   few = record { symbols = few.symbols; states = s.few; rules = u.few };

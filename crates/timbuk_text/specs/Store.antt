@@ -9,6 +9,7 @@ use Rattle.timbuk_definitions.specs.Grammar.{Item}
 use Rattle.timbuk_definitions.specs.Reading.{title_of, symbols_of, states_of, finals_of, rules_of, IsRuleAt}
 use Rattle.timbuk_definitions.specs.Machine.{Slot, InStates, InFinals, InRules, InKids, Spot, Start, InOps, AfterOp, AfterOpColon, AfterAutomaton, AfterTitle, AfterFinal, AfterHead, AfterOpen, AfterComma, AfterClose, AfterPointer, In, AfterState, AfterColon}
 use Rattle.timbuk_text.specs.declared.tables.Tables.{Tables}
+use Rattle.timbuk_text.specs.Rules.{rules_in}
 
 pub record Store : Type 0 where
   pub title : Option (List ℕ)
@@ -26,9 +27,9 @@ abbrev pub store_of : Tables → Store
 store_of t = record {
   title = t.title;
   symbols = t.symbols.keys;
-  states = t.states.keys;
+  states = t.states;
   finals = t.finals.keys;
-  rules = t.rules.keys;
+  rules = rules_in t.rules;
   head = t.head.items;
   kids = t.kids.items;
   symbol = t.symbol;

@@ -5,6 +5,7 @@ mod error;
 mod printer;
 mod reader;
 mod reading;
+mod rules;
 mod scan;
 mod table;
 mod tables;

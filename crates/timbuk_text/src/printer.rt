@@ -1,39 +1,54 @@
 //! The canonical text of an automaton.
 
-ghost use Rattle.std.specs.Prelude.{◌≡◌, ◌<◌, ◌++◌, ◌∷◌, [], codes, length, map, All, IfOk, OnOk};
+ghost use Rattle.std.specs.Prelude.{◌≡◌, ◌≢◌, ◌<◌, ◌++◌, ◌∷◌, [], codes, length, map, All, AllPairs, IfOk, OnOk};
 ghost use Rattle.std.specs.List.{flat_map};
-ghost use Rattle.tree_definitions.specs.Canonical.{canon};
+ghost use Rattle.std.specs.List.Sorted.{IsPermutation};
+ghost use Rattle.std.specs.Ordering.{nat_cmp};
+ghost use Rattle.tree_definitions.specs.Canonical.{canon, in_order, rule_cmp};
 ghost use Rattle.ta_model.specs.Listing.{IsListed};
 ghost use Rattle.timbuk_text.specs.Fitting.{IsRuleOver};
 ghost use Rattle.timbuk_definitions.specs.Reading.{Spells};
 ghost use Rattle.timbuk_definitions.specs.Printed.{print, blank, finals_text, kids_text, name_at, ops_text, plain_text, rule_text, rules_text, op_text, states_text, symbol_at, title_text};
 
+use rule_order::ByParent;
 use std::alloc::{AllocError, Global};
 use ta_model::{Listed, Name, Rule, Symbol};
+
+/// The numbers in rising order.
+fn in_rising_order(alloc: Global, finals: &[u32]) -> Result<Vec<u32>, AllocError>
+    requires { AllPairs ◌≢◌ finals.now }
+    ensures permutation { IfOk result (λ v. IsPermutation finals.now v.items) }
+    ensures sorted { IfOk result (λ v. v.items ≡ in_order nat_cmp finals.now) }
+{
+    let mut sorted = Vec::from_slice(alloc, finals)?;
+    sorted.sort_unstable();
+    Ok(sorted)
+}
+
+/// The text of the automaton with its finals and rules in rising order.
+#[tactic(auto, unfolding(timbuk_definitions::specs::Printed::plain_text))]
+fn canonical_text(a: &Listed) -> Result<Vec<u8>, AllocError>
+    ensures text { IfOk result (λ v. v.items ≡ print a.now) }
+    ensures small { OnOk result (All (λ s. s.rank < 256) a.now.symbols) }
+    ensures listed { OnOk result (IsListed a.now) }
+{
+    let alloc = a.allocator();
+    let mut out = Vec::new(alloc);
+    put_ops(&mut out, a.symbols())?;
+    put_title(&mut out, a.name())?;
+    put_states(&mut out, a.states())?;
+    let finals = in_rising_order(alloc, a.finals())?;
+    put_finals(&mut out, a.states(), &finals)?;
+    put_rules(&mut out, a.symbols(), a.states(), a.rules())?;
+    Ok(out)
+}
 
 /// The text of the automaton with its finals and rules in rising order. It spells this form.
 pub fn print(a: &Listed) -> Result<Vec<u8>, AllocError>
     ensures text { IfOk result (λ v. v.items ≡ print a.now) }
     ensures spells { IfOk result (λ v. Spells v.items (canon a.now)) }
 {
-    let canonical = a.canon()?;
-    plain(&canonical)
-}
-
-/// The text of the automaton with its finals and rules in their order.
-#[tactic(auto, unfolding(timbuk_definitions::specs::Printed::plain_text))]
-fn plain(a: &Listed) -> Result<Vec<u8>, AllocError>
-    ensures text { IfOk result (λ v. v.items ≡ plain_text a.now) }
-    ensures small { OnOk result (All (λ s. s.rank < 256) a.now.symbols) }
-    ensures listed { OnOk result (IsListed a.now) }
-{
-    let mut out = Vec::new(a.allocator());
-    put_ops(&mut out, a.symbols())?;
-    put_title(&mut out, a.name())?;
-    put_states(&mut out, a.states())?;
-    put_finals(&mut out, a.states(), a.finals())?;
-    put_rules(&mut out, a.symbols(), a.states(), a.rules())?;
-    Ok(out)
+    canonical_text(a)
 }
 
 fn put_ops(out: &mut Vec<u8>, symbols: &[Symbol]) -> Result<(), AllocError>
@@ -162,31 +177,58 @@ fn put_rule(
     Ok(())
 }
 
+/// The lines of the rules that lead to one state.
+fn put_lines(
+    out: &mut Vec<u8>,
+    symbols: &[Symbol],
+    states: &[Name],
+    rules: &[&Rule],
+) -> Result<(), AllocError>
+    requires { All (IsRuleOver symbols.now (length states.now)) (map (λ r. r.now) rules.now) }
+    ensures { OnOk result (out.new.items ≡ out.old.items ++ flat_map (rule_text symbols.now states.now) (map (λ r. r.now) rules.now)) }
+{
+    for rule in rules {
+        put_rule(out, symbols, states, *rule)?;
+    }
+    Ok(())
+}
+
+/// The lines of the rules in rising order, parent by parent.
+fn put_groups(
+    out: &mut Vec<u8>,
+    symbols: &[Symbol],
+    states: &[Name],
+    rules: &[Rule],
+) -> Result<(), AllocError>
+    requires few { length rules.now < 4294967295 }
+    requires few_states { length states.now < 4294967295 }
+    requires places { All (IsRuleOver symbols.now (length states.now)) rules.now }
+    requires distinct { AllPairs ◌≢◌ rules.now }
+    ensures { OnOk result (out.new.items ≡ out.old.items ++ flat_map (rule_text symbols.now states.now) (in_order rule_cmp rules.now)) }
+{
+    let alloc = *out.allocator();
+    let chains = ByParent::new(alloc, states.len(), rules)?;
+    let mut group = Vec::new(alloc);
+    for parent in 0..states.len() as u32 {
+        chains.group(rules, parent, &mut group)?;
+        put_lines(out, symbols, states, &group)?;
+    }
+    Ok(())
+}
+
 fn put_rules(
     out: &mut Vec<u8>,
     symbols: &[Symbol],
     states: &[Name],
     rules: &[Rule],
 ) -> Result<(), AllocError>
-    requires { All (IsRuleOver symbols.now (length states.now)) rules.now }
-    ensures { OnOk result (out.new.items ≡ out.old.items ++ rules_text symbols.now states.now rules.now) }
+    requires few { length rules.now < 4294967295 }
+    requires few_states { length states.now < 4294967295 }
+    requires places { All (IsRuleOver symbols.now (length states.now)) rules.now }
+    requires distinct { AllPairs ◌≢◌ rules.now }
+    ensures { OnOk result (out.new.items ≡ out.old.items ++ rules_text symbols.now states.now (in_order rule_cmp rules.now)) }
 {
     out.extend_from_slice(b"Transitions\n")?;
-    put_lines(out, symbols, states, rules)?;
-    Ok(())
-}
-
-fn put_lines(
-    out: &mut Vec<u8>,
-    symbols: &[Symbol],
-    states: &[Name],
-    rules: &[Rule],
-) -> Result<(), AllocError>
-    requires { All (IsRuleOver symbols.now (length states.now)) rules.now }
-    ensures { OnOk result (out.new.items ≡ out.old.items ++ flat_map (rule_text symbols.now states.now) rules.now) }
-{
-    for rule in rules {
-        put_rule(out, symbols, states, rule)?;
-    }
+    put_groups(out, symbols, states, rules)?;
     Ok(())
 }

@@ -1,6 +1,6 @@
 //! What the reader has listed so far, and how each token is taken into it.
 
-ghost use Rattle.std.specs.Prelude.{◌≡◌, ◌<◌, ◌≤◌, true, codes, min, unwrap_or, length, bytes_eq, IfOk, OnOk, IsErrOf};
+ghost use Rattle.std.specs.Prelude.{◌≡◌, ◌<◌, ◌≤◌, true, codes, min, unwrap_or, length, bytes_eq, All, IfOk, OnOk, IsErrOf};
 ghost use Rattle.std.specs.Ordering.{eq_by_cmp};
 ghost use Rattle.std.specs.Str.Parse.{digits_value};
 ghost use Rattle.tree_definitions.specs.Name.{IsName};
@@ -9,16 +9,19 @@ ghost use Rattle.tree_definitions.specs.Joint.{same_symbol};
 ghost use Rattle.ta_model.specs.Listing.{IsListed};
 ghost use Rattle.timbuk_definitions.specs.Grammar.{are_digits};
 ghost use Rattle.timbuk_definitions.specs.Place.{IsFull};
+ghost use Rattle.timbuk_text.specs.Rules.{Puts, rules_in};
 ghost use Rattle.timbuk_text.specs.Store.{store_of, empty};
 ghost use Rattle.timbuk_text.specs.Reading.{automaton_of};
 ghost use Rattle.timbuk_text.specs.Taking.{Interns, InternsBy, IsFullBy, line_read};
 
 use crate::error::Counted;
+use crate::rules::RuleLines;
 use crate::table::Action;
 use indexmap::IndexSet;
 use std::alloc::{AllocError, AllocFailed, Global};
 use std::hash::Hash;
 use ta_model::{Kids, Listed, Name, Rule, Symbol};
+use word_table::{WordTable, Words};
 
 /// The most bytes of a name.
 const NAME_BYTES: usize = 1_000;
@@ -29,8 +32,6 @@ pub const MOST_RANK: usize = 32;
 const MOST_SYMBOLS: usize = 65_535;
 
 const MOST_STATES: usize = 1_000_000;
-
-const MOST_RULES: usize = 2_000_000;
 
 /// Why a token is not taken.
 #[derive(Clone, Copy, Debug)]
@@ -65,9 +66,9 @@ impl<T: Drop> From<AllocFailed<T>> for Stop {
 pub struct Tables {
     pub title: Option<Name>,
     pub symbols: IndexSet<Symbol>,
-    pub states: IndexSet<Name>,
+    pub states: WordTable,
     pub finals: IndexSet<u32>,
-    pub rules: IndexSet<Rule>,
+    pub rules: RuleLines,
     /// The name that began it.
     pub head: Vec<u8>,
     /// The places of its children so far.
@@ -77,7 +78,7 @@ pub struct Tables {
 }
 
 /// The place of the value in the set, where it comes last if it is new.
-fn intern<T: Eq + Hash + Drop>(
+pub fn intern<T: Eq + Hash + Drop>(
     set: &mut IndexSet<T>,
     value: T,
     most: usize,
@@ -121,10 +122,23 @@ pub fn rank_of(digits: &[u8]) -> u8
 }
 
 /// The values of the set, in their order.
-fn list_of<T: Eq + Hash + Drop>(alloc: Global, set: IndexSet<T>) -> Result<Vec<T>, AllocError>
+pub fn list_of<T: Eq + Hash + Drop>(alloc: Global, set: IndexSet<T>) -> Result<Vec<T>, AllocError>
     ensures { IfOk result (λ v. v.items ≡ set.keys) }
 {
     Vec::from_iter(alloc, set)
+}
+
+/// The words as names.
+fn names_of(alloc: Global, words: &Words) -> Result<Vec<Name>, AllocError>
+    requires { All IsName words.now }
+    ensures { IfOk result (λ v. v.items ≡ words.now) }
+{
+    let mut names = Vec::with_capacity(alloc, words.len())?;
+    for place in 0..words.len() {
+        let name = Name::known(alloc, words.word(place as u32))?;
+        names.push(name)?;
+    }
+    Ok(names)
 }
 
 /// The automaton's name, or the one that it has where the file gives none.
@@ -145,9 +159,9 @@ impl Tables {
         Tables {
             title: None,
             symbols: IndexSet::new(alloc),
-            states: IndexSet::new(alloc),
+            states: WordTable::new(alloc),
             finals: IndexSet::new(alloc),
-            rules: IndexSet::new(alloc),
+            rules: RuleLines::new(alloc),
             head: Vec::new(alloc),
             kids: Kids::new(alloc),
             symbol: 0,
@@ -174,9 +188,9 @@ impl Tables {
         } = self;
         let name = title_or_anonymous(alloc, title)?;
         let symbols = list_of(alloc, symbols)?;
-        let states = list_of(alloc, states)?;
+        let states = names_of(alloc, states.words())?;
         let finals = list_of(alloc, finals)?;
-        let rules = list_of(alloc, rules)?;
+        let rules = rules.into_list()?;
         Ok(Listed::new(name, symbols, states, finals, rules))
     }
 
@@ -200,24 +214,29 @@ impl Tables {
 
     /// The place of the state with this name.
     pub fn put_state(&mut self, word: &[u8]) -> Result<u32, Stop>
-        requires name { IsName word.now }
-        requires few { length self.old.states.keys ≤ 1000000 }
-        ensures ok { IfOk result (Interns bytes_eq 1000000 self.old.states.keys self.new.states.keys word.now) }
-        ensures rest { store_of self.new ≡ record (store_of self.old) { states = self.new.states.keys } }
+        requires few { length self.old.states ≤ 1000000 }
+        requires short { length word.now ≤ 1000 }
+        ensures ok { IfOk result (Interns bytes_eq 1000000 self.old.states self.new.states word.now) }
+        ensures rest { store_of self.new ≡ record (store_of self.old) { states = self.new.states } }
         ensures stop { (which : Counted) → IsErrOf result (Stop.Limit which) →
-            (which ≡ Counted.States) × IsFull 1000000 self.old.states.keys word.now }
+            (which ≡ Counted.States) × IsFull 1000000 self.old.states word.now }
     {
-        let name = Name::known(self.allocator(), word)?;
-        intern(&mut self.states, name, MOST_STATES, Counted::States)
+        if self.states.len() < MOST_STATES {
+            return Ok(self.states.intern(word)?);
+        }
+        match self.states.find(word) {
+            Some(place) => Ok(place),
+            None => Err(Stop::Limit(Counted::States)),
+        }
     }
 
     /// The rule that is being read, with this parent.
-    pub fn put_rule(&mut self, parent: u32) -> Result<u32, Stop>
-        requires few { length self.old.rules.keys ≤ 2000000 }
-        ensures ok { IfOk result (Interns (eq_by_cmp rule_cmp) 2000000 self.old.rules.keys self.new.rules.keys (line_read (store_of self.old) parent)) }
-        ensures rest { store_of self.new ≡ record (store_of self.old) { rules = self.new.rules.keys } }
+    pub fn put_rule(&mut self, parent: u32) -> Result<(), Stop>
+        requires few { length (rules_in self.old.rules) ≤ 2000000 }
+        ensures ok { OnOk result (Puts (rules_in self.old.rules) (rules_in self.new.rules) (line_read (store_of self.old) parent)) }
+        ensures rest { store_of self.new ≡ record (store_of self.old) { rules = rules_in self.new.rules } }
         ensures stop { (which : Counted) → IsErrOf result (Stop.Limit which) →
-            (which ≡ Counted.Rules) × IsFull 2000000 self.old.rules.keys (line_read (store_of self.old) parent) }
+            (which ≡ Counted.Rules) × IsFull 2000000 (rules_in self.old.rules) (line_read (store_of self.old) parent) }
     {
         let kids = Kids::from_slice(self.allocator(), self.kids.as_slice())?;
         let rule = Rule {
@@ -225,7 +244,7 @@ impl Tables {
             kids,
             parent,
         };
-        intern(&mut self.rules, rule, MOST_RULES, Counted::Rules)
+        self.rules.put(rule)
     }
 
     pub fn set_head(&mut self, word: &[u8]) -> Result<(), Stop>

@@ -20,5 +20,5 @@ returns-clause-ok c =
     let finals : c.insert.new.self.keys ≡ with_new nat_eq c.args.self.now.finals.keys c.in_ok-place.place =
     c.in_ok-insert.ensures.keys ∙ ap (λ (s : Store). with_new nat_eq s.finals c.in_ok-place.place) c.in_ok-place.ensures.rest in
     subst (Takes Action.Final c.args.word.now old)
-    (sym (ap (λ (s : Store). record s { finals = c.insert.new.self.keys }) c.in_ok-place.ensures.rest ∙ ap (λ (fs : List ℕ). record old { states = c.put_state.new.self.states.keys; finals = fs }) finals))
-    (final_taken old c.args.word.now c.put_state.new.self.states.keys c.in_ok-place.place c.in_ok-check_name.ensures.ok c.in_ok-place.ensures.ok c.requires.few)
+    (sym (ap (λ (s : Store). record s { finals = c.insert.new.self.keys }) c.in_ok-place.ensures.rest ∙ ap (λ (fs : List ℕ). record old { states = c.put_state.new.self.states; finals = fs }) finals))
+    (final_taken old c.args.word.now c.put_state.new.self.states c.in_ok-place.place c.in_ok-check_name.ensures.ok c.in_ok-place.ensures.ok c.requires.few)

@@ -20,5 +20,5 @@ returns-clause-ok c =
     let kids : c.push.new.self.items ≡ c.args.self.now.kids.items ++ c.in_ok-place.place ∷ [] =
     c.in_ok-push.ensures.ok ∙ ap (λ (s : Store). s.kids ++ c.in_ok-place.place ∷ []) c.in_ok-place.ensures.rest in
     subst (Takes Action.Kid c.args.word.now old)
-    (sym (ap (λ (s : Store). record s { kids = c.push.new.self.items }) c.in_ok-place.ensures.rest ∙ ap (λ (ks : List ℕ). record old { states = c.put_state.new.self.states.keys; kids = ks }) kids))
-    (kid_taken old c.args.word.now c.put_state.new.self.states.keys c.in_ok-place.place c.in_ok-check_name.ensures.ok fits c.in_ok-place.ensures.ok c.requires.few)
+    (sym (ap (λ (s : Store). record s { kids = c.push.new.self.items }) c.in_ok-place.ensures.rest ∙ ap (λ (ks : List ℕ). record old { states = c.put_state.new.self.states; kids = ks }) kids))
+    (kid_taken old c.args.word.now c.put_state.new.self.states c.in_ok-place.place c.in_ok-check_name.ensures.ok fits c.in_ok-place.ensures.ok c.requires.few)

@@ -14,4 +14,4 @@ returns-in_err-put_state-clause-stop c which e =
 pub returns-clause-ok : goal.returns-clause-ok
 returns-clause-ok c =
     subst (Takes Action.State c.args.word.now (store_of c.args.self.now)) (sym c.in_ok-put_state.ensures.rest)
-    (state_taken (store_of c.args.self.now) c.args.word.now c.put_state.new.self.states.keys c.in_ok-put_state.field-0 c.in_ok-check_name.ensures.ok c.in_ok-put_state.ensures.ok c.requires.few)
+    (state_taken (store_of c.args.self.now) c.args.word.now c.put_state.new.self.states c.in_ok-put_state.field-0 c.in_ok-check_name.ensures.ok c.in_ok-put_state.ensures.ok c.requires.few)

@@ -1,0 +1,4 @@
+pub mod Chained
+pub mod Grouped
+pub mod Apart
+pub mod Ordered

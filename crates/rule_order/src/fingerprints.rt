@@ -1,0 +1,50 @@
+//! Numbers of rules, which are the same for the same rule.
+
+ghost use Rattle.std.specs.Prelude.{◌≡◌, ◌≢◌, ◌<◌, ℕ, false, length, map, All, AllPairs, IfOk, IsTrue};
+ghost use Rattle.std.specs.List.Sorted.{IsNonDecreasing};
+ghost use Rattle.rule_order.specs.Fingerprint.{fingerprint};
+
+use std::alloc::{AllocError, Global};
+use std::hash::{FoldHasher, Hash, Hasher};
+use ta_model::Rule;
+
+/// A number of 64 bits, which few other rules have.
+fn fingerprint(rule: &Rule) -> u64
+    ensures { result ≡ fingerprint rule.now }
+{
+    let mut hasher = FoldHasher::default();
+    rule.hash(&mut hasher);
+    hasher.finish()
+}
+
+fn fingerprints(alloc: Global, rules: &[Rule]) -> Result<Vec<u64>, AllocError>
+    ensures { IfOk result (λ v. v.items ≡ map fingerprint rules.now) }
+{
+    let mut numbers = Vec::with_capacity(alloc, rules.len())?;
+    for rule in rules {
+        numbers.push(fingerprint(rule))?;
+    }
+    Ok(numbers)
+}
+
+/// Whether two neighbours of a list in rising order are equal.
+fn has_equal_neighbours(numbers: &[u64]) -> bool
+    requires { IsNonDecreasing numbers.now }
+    ensures { result ≡ false → AllPairs ◌≢◌ numbers.now }
+{
+    for i in 1..numbers.len() {
+        if numbers[i] == numbers[i - 1] {
+            return true;
+        }
+    }
+    false
+}
+
+/// Whether two rules of the list look alike. Where none do, no rule stands in it twice.
+pub fn may_repeat(alloc: Global, rules: &[Rule]) -> Result<bool, AllocError>
+    ensures { IfOk result (λ may. may ≡ false → AllPairs ◌≢◌ rules.now) }
+{
+    let mut numbers = fingerprints(alloc, rules)?;
+    numbers.sort_unstable();
+    Ok(has_equal_neighbours(&numbers))
+}

@@ -1,0 +1,3 @@
+pub mod Words
+pub mod Index
+pub mod Table

@@ -1,0 +1,11 @@
+//! Words, one behind the other in one block of bytes, and a table that finds the place of a word.
+#![tactic(auto)]
+
+mod index;
+mod table;
+#[cfg(test)]
+mod tests;
+mod words;
+
+pub use table::WordTable;
+pub use words::Words;
