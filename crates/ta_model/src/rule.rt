@@ -11,12 +11,19 @@ pub type Kids = SmallVec<u32, 4, Global>;
 
 /// A rule by places: of its symbol, of its children and of its parent. It is seen without the
 /// capacity of its children. Rules are ordered by parent, then symbol, then children.
+// The two numbers stand side by side, since fields lie in their order and the children begin at a
+// multiple of 8 bytes.
 #[derive(Debug, Drop)]
 pub struct Rule {
     pub symbol: u32,
-    pub kids: Kids,
     pub parent: u32,
+    pub kids: Kids,
 }
+
+/// How many bytes a rule takes. There may be millions of them.
+const RULE_LEN: usize = 40;
+
+const _: () = prove!(size_of::<Rule>() == RULE_LEN);
 
 impl Model for Rule {
     ghost use Rattle.tree_definitions.specs.Automaton.{Rule as RuleSpec};

@@ -25,14 +25,19 @@ module _ {X : Type 0} (same : X → X → Bool) (decides : (a b : X) → Decides
       → (which : Counted) → IsErrOf r (Stop.Limit which) → (which ≡ what) × IsFull most old x
   stop_as r f which e = let p = f which e in (p.0, subst (IsFull most old) is (full same decides most old value p.1))
 
--- what the table of words says of an insert
-pub known_word : (old : List (List ℕ)) (word : List ℕ) (place : ℕ) → IsAt old place word → length old ≤ 1000000 → Interns bytes_eq 1000000 old old word place
-known_word old word place at few = record {
-  list = sym (with_old bytes_eq bytes_eq-Decides old word (contains_at old place word at));
+-- a value that stands in the list already
+pub known : {X : Type 0} (same : X → X → Bool) → ((a b : X) → Decides (same a b) (a ≡ b)) → (most : ℕ) (old : List X) (x : X) (place : ℕ)
+    → IsAt old place x → length old ≤ most → Interns same most old old x place
+known same decides most old x place at few = record {
+  list = sym (with_old same decides old x (contains_at old place x at));
   at = at;
-  room = λ full. full.0 (contains_at old place word at);
+  room = λ full. full.0 (contains_at old place x at);
   few = few;
 }
+
+-- what the table of words says of an insert
+pub known_word : (old : List (List ℕ)) (word : List ℕ) (place : ℕ) → IsAt old place word → length old ≤ 1000000 → Interns bytes_eq 1000000 old old word place
+known_word = known bytes_eq bytes_eq-Decides 1000000
 
 pub interned_word : (old new : List (List ℕ)) (word : List ℕ) (place : ℕ) → length old < 1000000 → IsInterned old word new place → Interns bytes_eq 1000000 old new word place
 interned_word old new word place room i = go (dec_listed bytes_eq bytes_eq-Decides old word)

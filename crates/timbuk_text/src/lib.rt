@@ -2,6 +2,7 @@
 #![tactic(auto)]
 
 mod error;
+mod placed_names;
 mod printer;
 mod reader;
 mod reading;

@@ -10,9 +10,13 @@ ghost use Rattle.timbuk_text.specs.Fitting.{IsRuleOver};
 ghost use Rattle.timbuk_definitions.specs.Reading.{Spells};
 ghost use Rattle.timbuk_definitions.specs.Printed.{print, blank, finals_text, kids_text, name_at, ops_text, plain_text, rule_text, rules_text, op_text, states_text, symbol_at, title_text};
 
+use crate::placed_names::PlacedNames;
 use rule_order::ByParent;
 use std::alloc::{AllocError, Global};
 use ta_model::{Listed, Name, Rule, Symbol};
+
+/// About how many bytes the line of a rule takes.
+const LINE_LEN: usize = 16;
 
 /// The numbers in rising order.
 fn in_rising_order(alloc: Global, finals: &[u32]) -> Result<Vec<u32>, AllocError>
@@ -37,9 +41,10 @@ fn canonical_text(a: &Listed) -> Result<Vec<u8>, AllocError>
     put_ops(&mut out, a.symbols())?;
     put_title(&mut out, a.name())?;
     put_states(&mut out, a.states())?;
+    let states = PlacedNames::of(alloc, a.states())?;
     let finals = in_rising_order(alloc, a.finals())?;
-    put_finals(&mut out, a.states(), &finals)?;
-    put_rules(&mut out, a.symbols(), a.states(), a.rules())?;
+    put_finals(&mut out, &states, &finals)?;
+    put_rules(&mut out, a.symbols(), &states, a.rules())?;
     Ok(out)
 }
 
@@ -97,7 +102,7 @@ fn put_states(out: &mut Vec<u8>, states: &[Name]) -> Result<(), AllocError>
     Ok(())
 }
 
-fn put_finals(out: &mut Vec<u8>, states: &[Name], finals: &[u32]) -> Result<(), AllocError>
+fn put_finals(out: &mut Vec<u8>, states: &PlacedNames<'_>, finals: &[u32]) -> Result<(), AllocError>
     requires { All (λ q. q < length states.now) finals.now }
     ensures { OnOk result (out.new.items ≡ out.old.items ++ finals_text states.now finals.now) }
 {
@@ -107,7 +112,7 @@ fn put_finals(out: &mut Vec<u8>, states: &[Name], finals: &[u32]) -> Result<(), 
     Ok(())
 }
 
-fn put_blanks(out: &mut Vec<u8>, states: &[Name], finals: &[u32]) -> Result<(), AllocError>
+fn put_blanks(out: &mut Vec<u8>, states: &PlacedNames<'_>, finals: &[u32]) -> Result<(), AllocError>
     requires { All (λ q. q < length states.now) finals.now }
     ensures { OnOk result (out.new.items ≡ out.old.items ++ flat_map (λ q. blank (name_at states.now q)) finals.now) }
 {
@@ -118,11 +123,11 @@ fn put_blanks(out: &mut Vec<u8>, states: &[Name], finals: &[u32]) -> Result<(), 
     Ok(())
 }
 
-fn put_name(out: &mut Vec<u8>, names: &[Name], place: u32) -> Result<(), AllocError>
+fn put_name(out: &mut Vec<u8>, names: &PlacedNames<'_>, place: u32) -> Result<(), AllocError>
     requires { place < length names.now }
     ensures { OnOk result (out.new.items ≡ out.old.items ++ name_at names.now place) }
 {
-    out.extend_from_slice(names[place as usize].bytes())?;
+    out.extend_from_slice(names.name(place))?;
     Ok(())
 }
 
@@ -135,7 +140,7 @@ fn put_symbol(out: &mut Vec<u8>, symbols: &[Symbol], place: u32) -> Result<(), A
     Ok(())
 }
 
-fn put_kids(out: &mut Vec<u8>, states: &[Name], kids: &[u32]) -> Result<(), AllocError>
+fn put_kids(out: &mut Vec<u8>, states: &PlacedNames<'_>, kids: &[u32]) -> Result<(), AllocError>
     requires { All (λ q. q < length states.now) kids.now }
     ensures { OnOk result (out.new.items ≡ out.old.items ++ kids_text states.now kids.now) }
 {
@@ -149,7 +154,7 @@ fn put_kids(out: &mut Vec<u8>, states: &[Name], kids: &[u32]) -> Result<(), Allo
     Ok(())
 }
 
-fn put_others(out: &mut Vec<u8>, states: &[Name], kids: &[u32]) -> Result<(), AllocError>
+fn put_others(out: &mut Vec<u8>, states: &PlacedNames<'_>, kids: &[u32]) -> Result<(), AllocError>
     requires { All (λ q. q < length states.now) kids.now }
     ensures { OnOk result (out.new.items ≡ out.old.items ++ flat_map (λ p. 44 ∷ name_at states.now p) kids.now) }
 {
@@ -163,7 +168,7 @@ fn put_others(out: &mut Vec<u8>, states: &[Name], kids: &[u32]) -> Result<(), Al
 fn put_rule(
     out: &mut Vec<u8>,
     symbols: &[Symbol],
-    states: &[Name],
+    states: &PlacedNames<'_>,
     rule: &Rule,
 ) -> Result<(), AllocError>
     requires { IsRuleOver symbols.now (length states.now) rule.now }
@@ -181,7 +186,7 @@ fn put_rule(
 fn put_lines(
     out: &mut Vec<u8>,
     symbols: &[Symbol],
-    states: &[Name],
+    states: &PlacedNames<'_>,
     rules: &[&Rule],
 ) -> Result<(), AllocError>
     requires { All (IsRuleOver symbols.now (length states.now)) (map (λ r. r.now) rules.now) }
@@ -197,7 +202,7 @@ fn put_lines(
 fn put_groups(
     out: &mut Vec<u8>,
     symbols: &[Symbol],
-    states: &[Name],
+    states: &PlacedNames<'_>,
     rules: &[Rule],
 ) -> Result<(), AllocError>
     requires few { length rules.now < 4294967295 }
@@ -219,7 +224,7 @@ fn put_groups(
 fn put_rules(
     out: &mut Vec<u8>,
     symbols: &[Symbol],
-    states: &[Name],
+    states: &PlacedNames<'_>,
     rules: &[Rule],
 ) -> Result<(), AllocError>
     requires few { length rules.now < 4294967295 }
@@ -229,6 +234,7 @@ fn put_rules(
     ensures { OnOk result (out.new.items ≡ out.old.items ++ rules_text symbols.now states.now (in_order rule_cmp rules.now)) }
 {
     out.extend_from_slice(b"Transitions\n")?;
+    out.reserve(LINE_LEN * rules.len())?;
     put_groups(out, symbols, states, rules)?;
     Ok(())
 }

@@ -8,10 +8,11 @@ ghost use Rattle.timbuk_definitions.specs.Reading.{first};
 ghost use Rattle.timbuk_text.specs.Rules.{Puts, rules_in};
 
 use crate::error::Counted;
-use crate::tables::{Stop, intern, list_of};
+use crate::tables::{PlaceSet, Stop, intern, list_of};
 use indexmap::IndexSet;
 use rule_order::may_repeat;
 use std::alloc::{AllocError, Global};
+use std::hash::BuildHasherDefault;
 use std::mem::replace;
 use ta_model::Rule;
 
@@ -23,14 +24,14 @@ const MOST_RULES: usize = 2_000_000;
 #[derive(Drop)]
 pub struct RuleLines {
     lines: Vec<Rule>,
-    distinct: Option<IndexSet<Rule>>,
+    distinct: Option<PlaceSet<Rule>>,
 }
 
 /// The rules of the lines, each once.
-fn distinct_of(alloc: Global, lines: Vec<Rule>) -> Result<IndexSet<Rule>, AllocError>
+fn distinct_of(alloc: Global, lines: Vec<Rule>) -> Result<PlaceSet<Rule>, AllocError>
     ensures { IfOk result (λ set. set.keys ≡ first (eq_by_cmp rule_cmp) lines.items) }
 {
-    let mut set = IndexSet::new(alloc);
+    let mut set = IndexSet::with_hasher(alloc, BuildHasherDefault::new());
     for rule in lines {
         let Ok(_) = set.insert(rule) else {
             return Err(AllocError);
@@ -51,7 +52,7 @@ fn without_repeats(alloc: Global, lines: Vec<Rule>) -> Result<Vec<Rule>, AllocEr
 }
 
 /// Puts a rule into the set.
-fn put_into(set: &mut IndexSet<Rule>, rule: Rule) -> Result<(), Stop>
+fn put_into(set: &mut PlaceSet<Rule>, rule: Rule) -> Result<(), Stop>
     requires few { length set.old.keys ≤ 2000000 }
     ensures ok { OnOk result (Puts set.old.keys set.new.keys rule) }
     ensures stop { (which : Counted) → IsErrOf result (Stop.Limit which) → (which ≡ Counted.Rules) × IsFull 2000000 set.old.keys rule }

@@ -1,10 +1,11 @@
 //! What the reader has listed so far, and how each token is taken into it.
 
-ghost use Rattle.std.specs.Prelude.{◌≡◌, ◌<◌, ◌≤◌, true, codes, min, unwrap_or, length, bytes_eq, All, IfOk, OnOk, IsErrOf};
+ghost use Rattle.std.specs.Prelude.{◌≡◌, ◌<◌, ◌≤◌, true, codes, min, unwrap_or, length, bytes_eq, All, IfOk, IfSome, OnOk, IsErrOf};
 ghost use Rattle.std.specs.Ordering.{eq_by_cmp};
 ghost use Rattle.std.specs.Str.Parse.{digits_value};
 ghost use Rattle.tree_definitions.specs.Name.{IsName};
 ghost use Rattle.tree_definitions.specs.Canonical.{rule_cmp};
+ghost use Rattle.tree_definitions.specs.Relation.{IsAt};
 ghost use Rattle.tree_definitions.specs.Joint.{same_symbol};
 ghost use Rattle.ta_model.specs.Listing.{IsListed};
 ghost use Rattle.timbuk_definitions.specs.Grammar.{are_digits};
@@ -19,7 +20,7 @@ use crate::rules::RuleLines;
 use crate::table::Action;
 use indexmap::IndexSet;
 use std::alloc::{AllocError, AllocFailed, Global};
-use std::hash::Hash;
+use std::hash::{BuildHasherDefault, DefaultHasher, Hash};
 use ta_model::{Kids, Listed, Name, Rule, Symbol};
 use word_table::{WordTable, Words};
 
@@ -32,6 +33,13 @@ pub const MOST_RANK: usize = 32;
 const MOST_SYMBOLS: usize = 65_535;
 
 const MOST_STATES: usize = 1_000_000;
+
+/// Among so many first symbols one is looked for by its name alone, since most files have few.
+const FIRST_SYMBOLS: usize = 8;
+
+/// Values with places from 0, in the order in which they came. A file chooses them, so they are hashed
+/// by SipHash.
+pub type PlaceSet<T> = IndexSet<T, BuildHasherDefault<DefaultHasher>>;
 
 /// Why a token is not taken.
 #[derive(Clone, Copy, Debug)]
@@ -65,9 +73,9 @@ impl<T: Drop> From<AllocFailed<T>> for Stop {
 #[derive(Drop)]
 pub struct Tables {
     pub title: Option<Name>,
-    pub symbols: IndexSet<Symbol>,
+    pub symbols: PlaceSet<Symbol>,
     pub states: WordTable,
-    pub finals: IndexSet<u32>,
+    pub finals: PlaceSet<u32>,
     pub rules: RuleLines,
     /// The name that began it.
     pub head: Vec<u8>,
@@ -79,7 +87,7 @@ pub struct Tables {
 
 /// The place of the value in the set, where it comes last if it is new.
 pub fn intern<T: Eq + Hash + Drop>(
-    set: &mut IndexSet<T>,
+    set: &mut PlaceSet<T>,
     value: T,
     most: usize,
     what: Counted,
@@ -96,6 +104,19 @@ pub fn intern<T: Eq + Hash + Drop>(
         Ok((place, _)) => Ok(place as u32),
         Err(_) => Err(Stop::Memory),
     }
+}
+
+/// The place of the symbol, if it is one of the first ones.
+fn place_among_first(symbols: &PlaceSet<Symbol>, name: &[u8], rank: u8) -> Option<u32>
+    ensures { IfSome result (λ place. IsAt symbols.now.keys place (record { name = name.now; rank = rank })) }
+{
+    for place in 0..symbols.len().min(FIRST_SYMBOLS) {
+        let symbol = symbols.get_index(place).unwrap();
+        if symbol.rank == rank && symbol.name.bytes() == name {
+            return Some(place as u32);
+        }
+    }
+    None
 }
 
 pub fn check_name(word: &[u8]) -> Result<(), Stop>
@@ -122,7 +143,7 @@ pub fn rank_of(digits: &[u8]) -> u8
 }
 
 /// The values of the set, in their order.
-pub fn list_of<T: Eq + Hash + Drop>(alloc: Global, set: IndexSet<T>) -> Result<Vec<T>, AllocError>
+pub fn list_of<T: Eq + Hash + Drop>(alloc: Global, set: PlaceSet<T>) -> Result<Vec<T>, AllocError>
     ensures { IfOk result (λ v. v.items ≡ set.keys) }
 {
     Vec::from_iter(alloc, set)
@@ -158,9 +179,9 @@ impl Tables {
     {
         Tables {
             title: None,
-            symbols: IndexSet::new(alloc),
+            symbols: IndexSet::with_hasher(alloc, BuildHasherDefault::new()),
             states: WordTable::new(alloc),
-            finals: IndexSet::new(alloc),
+            finals: IndexSet::with_hasher(alloc, BuildHasherDefault::new()),
             rules: RuleLines::new(alloc),
             head: Vec::new(alloc),
             kids: Kids::new(alloc),
@@ -203,6 +224,9 @@ impl Tables {
         ensures stop { (which : Counted) → IsErrOf result (Stop.Limit which) →
             (which ≡ Counted.Symbols) × IsFull 65535 self.old.symbols.keys (record { name = self.old.head.items; rank = rank }) }
     {
+        if let Some(place) = place_among_first(&self.symbols, &self.head, rank) {
+            return Ok(place);
+        }
         let name = Name::known(self.allocator(), &self.head)?;
         intern(
             &mut self.symbols,
