@@ -5,7 +5,7 @@
 mod by_parent;
 mod fingerprints;
 
-pub use by_parent::ByParent;
+pub use by_parent::{ByParent, Keyed};
 pub use fingerprints::may_repeat;
 
 #[cfg(test)]

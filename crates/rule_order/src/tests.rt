@@ -25,15 +25,18 @@ fn the_rules_to_a_parent_come_in_order(rt: HostRuntime) {
     let a = rule(alloc, 0, &[], 0).expect(&rt, "memory");
     let rules = [b, f, a];
     assert_eq!(rt; may_repeat(alloc, &rules), Ok(false));
-    let chains = ByParent::new(alloc, 2, &rules).expect(&rt, "memory");
+    let parts = ByParent::new(alloc, 2, &rules).expect(&rt, "memory");
     let mut group = Vec::new(alloc);
-    assert!(rt; chains.group(&rules, 0, &mut group).is_ok());
+    assert!(rt; parts.group(&rules, 0, &mut group).is_ok());
     assert_eq!(rt; group.len(), 2);
-    assert_eq!(rt; group[0].symbol, 0);
-    assert_eq!(rt; group[1].symbol, 1);
-    assert!(rt; chains.group(&rules, 1, &mut group).is_ok());
+    let (_, first) = group[0];
+    let (_, second) = group[1];
+    assert_eq!(rt; first.symbol, 0);
+    assert_eq!(rt; second.symbol, 1);
+    assert!(rt; parts.group(&rules, 1, &mut group).is_ok());
     assert_eq!(rt; group.len(), 1);
-    assert_eq!(rt; group[0].symbol, 2);
+    let (_, only) = group[0];
+    assert_eq!(rt; only.symbol, 2);
 }
 
 #[test]

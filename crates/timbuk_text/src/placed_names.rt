@@ -14,8 +14,8 @@ const MOST_NAMES: usize = 1_000_000;
 /// The most bytes of a name in the block.
 const MOST_BYTES: usize = 1_000;
 
-/// Names of places. The first of them stand in one block as well, since a name of its own is two
-/// fetches from anywhere in memory. They are seen as the list of the names.
+/// Names of places. The first of them stand in one block as well, one behind the other, where a cache
+/// holds more of them. They are seen as the list of the names.
 #[derive(Drop)]
 pub struct PlacedNames<'a> {
     names: &'a [Name],

@@ -11,7 +11,7 @@ ghost use Rattle.timbuk_definitions.specs.Reading.{Spells};
 ghost use Rattle.timbuk_definitions.specs.Printed.{print, blank, finals_text, kids_text, name_at, ops_text, plain_text, rule_text, rules_text, op_text, states_text, symbol_at, title_text};
 
 use crate::placed_names::PlacedNames;
-use rule_order::ByParent;
+use rule_order::{ByParent, Keyed};
 use std::alloc::{AllocError, Global};
 use ta_model::{Listed, Name, Rule, Symbol};
 
@@ -187,13 +187,13 @@ fn put_lines(
     out: &mut Vec<u8>,
     symbols: &[Symbol],
     states: &PlacedNames<'_>,
-    rules: &[&Rule],
+    group: &[Keyed<'_>],
 ) -> Result<(), AllocError>
-    requires { All (IsRuleOver symbols.now (length states.now)) (map (λ r. r.now) rules.now) }
-    ensures { OnOk result (out.new.items ≡ out.old.items ++ flat_map (rule_text symbols.now states.now) (map (λ r. r.now) rules.now)) }
+    requires { All (IsRuleOver symbols.now (length states.now)) (map (λ g. g.1.now) group.now) }
+    ensures { OnOk result (out.new.items ≡ out.old.items ++ flat_map (rule_text symbols.now states.now) (map (λ g. g.1.now) group.now)) }
 {
-    for rule in rules {
-        put_rule(out, symbols, states, *rule)?;
+    for keyed in group {
+        put_rule(out, symbols, states, keyed.1)?;
     }
     Ok(())
 }
@@ -212,10 +212,10 @@ fn put_groups(
     ensures { OnOk result (out.new.items ≡ out.old.items ++ flat_map (rule_text symbols.now states.now) (in_order rule_cmp rules.now)) }
 {
     let alloc = *out.allocator();
-    let chains = ByParent::new(alloc, states.len(), rules)?;
+    let parts = ByParent::new(alloc, states.len(), rules)?;
     let mut group = Vec::new(alloc);
     for parent in 0..states.len() as u32 {
-        chains.group(rules, parent, &mut group)?;
+        parts.group(rules, parent, &mut group)?;
         put_lines(out, symbols, states, &group)?;
     }
     Ok(())

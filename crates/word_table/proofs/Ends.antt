@@ -1,5 +1,5 @@
 -- Words between their ends.
-use Rattle.std.proofs.Common.{◌≡◌, ◌≢◌, ℕ, zero, suc, ◌+◌, ◌-◌, ◌*◌, ◌<◌, ◌≤◌, List, [], ◌∷◌, ◌++◌, length, get_or, take, drop, refl, sym, ap, ap₂, ◌∙◌, subst, arith, length-append, length-drop}
+use Rattle.std.proofs.Common.{◌≡◌, ℕ, zero, suc, ◌+◌, ◌-◌, ◌*◌, ◌<◌, ◌≤◌, List, [], ◌∷◌, ◌++◌, length, get_or, take, drop, refl, sym, ap, ap₂, ◌∙◌, subst, arith, length-append, length-drop}
 use Rattle.std.specs.List.{slice_range}
 use Rattle.std.proofs.lemmas.List.{drop_at, take_all, drop-append-le, take-append-le, length_push, get_or_default}
 use Rattle.tree_definitions.specs.Relation.{IsAt}
@@ -8,10 +8,6 @@ use Rattle.word_table.specs.Words.{AreEnds, AreWords, start_of, words_from}
 pub length-words_from : (start : ℕ) (bytes ends : List ℕ) → length (words_from start bytes ends) ≡ length ends
 length-words_from start bytes [] = refl
 length-words_from start bytes (e ∷ es) = ap suc (length-words_from e bytes es)
-
-pub start_later : (start : ℕ) (ends : List ℕ) (k : ℕ) → k ≢ 0 → get_or ends (k - 1) 0 ≡ start_of start ends k
-start_later start ends zero n = absurd (n refl)
-start_later start ends (suc k) n = let e : suc k - 1 ≡ k = omega arith in ap (λ i. get_or ends i 0) e
 
 start_next : (e : ℕ) (es : List ℕ) (k : ℕ) → start_of e es k ≡ get_or (e ∷ es) k 0
 start_next e es zero = refl

@@ -1,9 +1,9 @@
 -- The search for a word from its bucket on.
-use Rattle.std.proofs.Common.{◌≡◌, ◌≢◌, ℕ, ◌+◌, ◌-◌, ◌<◌, ◌≤◌, false, List, [], length, get_or, sym, ap, ◌∙◌, subst, arith, ⊎_elim}
+use Rattle.std.proofs.Common.{◌≡◌, ◌≢◌, ℕ, ◌+◌, ◌-◌, ◌<◌, ◌≤◌, false, List, [], Option, Some, sym, ap, ◌∙◌, arith, ⊎_elim}
 use Rattle.std.specs.Prelude.{Contains, bytes_eq}
 use Rattle.std.proofs.lemmas.Bool.{cases_lt, false≢true}
 use Rattle.std.proofs.lemmas.List.{get_or_default}
-use Rattle.std.proofs.lemmas.Option.{get_or_from_slice_get}
+use Rattle.std.proofs.lemmas.Option.{slice_get-get_or}
 use Rattle.std.proofs.lemmas.Slice.Eq.{bytes_eq-Decides}
 use Rattle.tree_definitions.specs.Relation.{IsAt}
 use Rattle.word_table.specs.declared.index.Slot.{Slot}
@@ -14,12 +14,13 @@ pub record ArePassed (words : List (List ℕ)) (word : List ℕ) (slots : List S
   pub taken : (s : ℕ) → bucket ≤ s → s < end → 0 < count_at slots s
   pub other : (s : ℕ) → bucket ≤ s → s < end → word_at words (count_at slots s - 1) ≢ word
 
--- what is read is not the word
-pub other_word : (words : List (List ℕ)) (k : ℕ) (read word : List ℕ) → IsAt words k read → bytes_eq read word ≡ false → get_or words k [] ≢ word
-other_word words k read word at differs e =
-    false≢true (sym differs ∙ (bytes_eq-Decides read word).1 (sym (get_or_from_slice_get words k read [] at) ∙ e))
+-- what is read at the place is not the word
+pub other_word : (words : List (List ℕ)) (k : ℕ) (read word : List ℕ) → IsAt words k read → bytes_eq read word ≡ false → ¬ IsAt words k word
+other_word words k read word at differs same =
+    let e : read ≡ word = cc in
+    false≢true (sym differs ∙ (bytes_eq-Decides read word).1 e)
 
-module _ (words : List (List ℕ)) (word : List ℕ) (buckets : ℕ) (slots : List Slot) (overflow : List ℕ) (bucket end : ℕ) (index : IsIndexOf words buckets slots overflow) (home : bucket ≡ bucket_of buckets (hash_of word)) (passed : ArePassed words word slots bucket end) where
+module _ (words : List (List ℕ)) (word : List ℕ) (buckets : ℕ) (slots : List Slot) (listed : List ℕ → Option ℕ) (bucket end : ℕ) (index : IsIndexOf words buckets slots listed) (home : bucket ≡ bucket_of buckets (hash_of word)) (passed : ArePassed words word slots bucket end) where
   -- no slot that was passed has the place of the word
   not_passed : (k s : ℕ) → word_at words k ≡ word → IsInSlot slots (bucket_of buckets (hash_of (word_at words k))) k s → bucket ≤ s → s < end → ⊥
   not_passed k s e h low high =
@@ -30,7 +31,7 @@ module _ (words : List (List ℕ)) (word : List ℕ) (buckets : ℕ) (slots : Li
   same_home k e = ap (λ w. bucket_of buckets (hash_of w)) e ∙ sym home
 
   -- an empty slot ends the search
-  pub empty_ends : bucket ≤ end → end < length slots → count_at slots end ≡ 0 → ¬ Contains words word
+  pub empty_ends : bucket ≤ end → end < bucket + 64 → count_at slots end ≡ 0 → ¬ Contains words word
   empty_ends from within free m =
       let e : word_at words m.0 ≡ word = get_or_default words m.0 [] word m.1 ∙ m.2 in
       let at : bucket_of buckets (hash_of (word_at words m.0)) ≡ bucket = same_home m.0 e in
@@ -46,19 +47,18 @@ module _ (words : List (List ℕ)) (word : List ℕ) (buckets : ℕ) (slots : Li
       absurd (omega (arith, ap (count_at slots) same, h.1.here, free)))
       (cases_lt end h.0))
       (cases_lt h.0 end))
-      (λ (h : IsInOverflow slots overflow (bucket_of buckets (hash_of (word_at words m.0))) m.0).
-      absurd (omega (arith, h.taken end (omega (arith, at, from)) within, free)))
+      (λ (h : IsInOverflow slots (bucket_of buckets (hash_of (word_at words m.0))) (listed (word_at words m.0)) m.0).
+      absurd (omega (arith, h.taken end (omega (arith, at, from)) (omega (arith, at, within)), free)))
       (index.index.reached m.0 m.1)
 
-  -- so does the end of the overflow, once all slots are passed
-  pub overflow_ends :
-      length slots ≤ end → ((j : ℕ) → j < length overflow → ¬ (word_at words (get_or overflow j 0) ≡ word)) → ¬ Contains words word
+  -- so does the overflow, once all 64 slots are passed
+  pub overflow_ends : bucket + 64 ≤ end → ((k : ℕ) → IsAt words k word → listed word ≢ Some k) → ¬ Contains words word
   overflow_ends all none m =
       let e : word_at words m.0 ≡ word = get_or_default words m.0 [] word m.1 ∙ m.2 in
       let at : bucket_of buckets (hash_of (word_at words m.0)) ≡ bucket = same_home m.0 e in
       ⊎_elim
       (λ (h : (s : ℕ) × IsInSlot slots (bucket_of buckets (hash_of (word_at words m.0))) m.0 s).
-      not_passed m.0 h.0 e h.1 (omega (arith, h.1.low, at)) (omega (arith, h.1.high, all)))
-      (λ (h : IsInOverflow slots overflow (bucket_of buckets (hash_of (word_at words m.0))) m.0).
-      none h.listed.0 h.listed.1 (ap (word_at words) (get_or_default overflow h.listed.0 0 m.0 h.listed.1 ∙ h.listed.2) ∙ e))
+      not_passed m.0 h.0 e h.1 (omega (arith, h.1.low, at)) (omega (arith, h.1.high, at, all)))
+      (λ (h : IsInOverflow slots (bucket_of buckets (hash_of (word_at words m.0))) (listed (word_at words m.0)) m.0).
+      none m.0 (slice_get-get_or words m.0 [] m.1 ∙ ap (λ (w : List ℕ). Some w) e) (ap listed (sym e) ∙ h.listed))
       (index.index.reached m.0 m.1)

@@ -1,6 +1,10 @@
 -- Places of words in slots, by the hashes of the words.
-use Rattle.std.specs.Prelude.{◌≡◌, ◌⊎◌, ℕ, ◌+◌, ◌-◌, ◌*◌, ◌%◌, ◌<◌, ◌≤◌, List, [], ◌∷◌, Contains, length, slice_index, slice_index_or, take}
+use Rattle.std.specs.Prelude.{◌≡◌, ◌⊎◌, ℕ, ◌+◌, ◌-◌, ◌*◌, ◌%◌, ◌<◌, ◌≤◌, List, [], ◌∷◌, Option, None, Some, length, slice_index, slice_index_or, take}
+use Rattle.std.specs.BTreeMap.{BTreeMap, get_by}
+use Rattle.std.specs.Cmp.Lexicographic.{slice_cmp}
 use Rattle.std.specs.Int.{IsPowerOfTwo}
+use Rattle.std.specs.Ordering.{nat_cmp}
+use Rattle.std.specs.declared.vec.Vec.{Vec}
 use Rattle.std.specs.Hash.FoldHasher.{initial, write, finish}
 use Rattle.word_table.specs.declared.index.Slot.{Slot}
 
@@ -52,32 +56,48 @@ pub record IsSlotOf (word_of_place : ℕ → List ℕ) (n : ℕ) (slot : Slot) :
 abbrev pub AreTaken : List Slot → ℕ → ℕ → Type 0
 AreTaken slots from end = (s : ℕ) → from ≤ s → s < end → 0 < count_at slots s
 
--- the place has the slot at this index, and those from its bucket up to that one are taken
+-- the place that the overflow has for the word
+abbrev pub place_in : {A : Type 0} → BTreeMap (Vec ℕ A) ℕ → List ℕ → Option ℕ
+place_in overflow word = get_by (λ copy. slice_cmp nat_cmp word copy.items) overflow
+
+-- the place has the slot at this index, one of the 64 from its bucket on, and those before it are taken
 pub record IsInSlot (slots : List Slot) (bucket place s : ℕ) : Type 0 where
   pub low : bucket ≤ s
-  pub high : s < length slots
+  pub high : s < bucket + 64
   pub here : count_at slots s ≡ place + 1
   pub taken : AreTaken slots bucket s
 
--- the place is in the overflow, and all slots from its bucket on are taken
-pub record IsInOverflow (slots : List Slot) (overflow : List ℕ) (bucket place : ℕ) : Type 0 where
-  pub listed : Contains overflow place
-  pub taken : AreTaken slots bucket (length slots)
+-- the place is what was found in the overflow for its word, and all 64 slots from its bucket on are taken
+pub record IsInOverflow (slots : List Slot) (bucket : ℕ) (found : Option ℕ) (place : ℕ) : Type 0 where
+  pub listed : found ≡ Some place
+  pub taken : AreTaken slots bucket (bucket + 64)
 
--- a search from the bucket comes to the place
-abbrev pub IsReached : List Slot → List ℕ → ℕ → ℕ → Type 0
-IsReached slots overflow bucket place = ((s : ℕ) × IsInSlot slots bucket place s) ⊎ IsInOverflow slots overflow bucket place
+-- the slot at this index is the first empty one of the 64 from the bucket on
+pub record IsEmptySlot (slots : List Slot) (bucket s : ℕ) : Type 0 where
+  pub low : bucket ≤ s
+  pub high : s < bucket + 64
+  pub free : count_at slots s ≡ 0
+  pub taken : AreTaken slots bucket s
 
--- the slots and the overflow have the first n places, each where a search comes to it, and nothing else
-pub record IsIndex (word_of_place : ℕ → List ℕ) (buckets : ℕ) (slots : List Slot) (overflow : List ℕ) (n : ℕ) : Type 0 where
+-- the index of an empty slot for the place, or none where it is in the overflow
+abbrev pub IsSlotFor : List Slot → ℕ → Option ℕ → ℕ → Option ℕ → Type 0
+IsSlotFor slots bucket found place None = IsInOverflow slots bucket found place
+IsSlotFor slots bucket found place (Some s) = IsEmptySlot slots bucket s
+
+-- a search for the word comes to the place
+abbrev pub IsReached : ℕ → List Slot → (List ℕ → Option ℕ) → List ℕ → ℕ → Type 0
+IsReached buckets slots listed word place =
+    ((s : ℕ) × IsInSlot slots (bucket_of buckets (hash_of word)) place s) ⊎ IsInOverflow slots (bucket_of buckets (hash_of word)) (listed word) place
+
+-- the slots have some of the first n places and nothing else, and a search comes to each of these places
+pub record IsIndex (word_of_place : ℕ → List ℕ) (buckets : ℕ) (slots : List Slot) (listed : List ℕ → Option ℕ) (n : ℕ) : Type 0 where
   pub slotted : (s : ℕ) → s < length slots → 0 < count_at slots s → IsSlotOf word_of_place n (slice_index_or slots s empty)
-  pub listed : (j : ℕ) → j < length overflow → slice_index overflow j < n
-  pub reached : (k : ℕ) → k < n → IsReached slots overflow (bucket_of buckets (hash_of (word_of_place k))) k
+  pub reached : (k : ℕ) → k < n → IsReached buckets slots listed (word_of_place k) k
 
--- an index of the words over a power of two of buckets, at least two for each word; no words may have no bucket
-pub record IsIndexOf (words : List (List ℕ)) (buckets : ℕ) (slots : List Slot) (overflow : List ℕ) : Type 0 where
+-- an index of the words over a power of two of buckets, at least 5 for 4 words; no words may have no bucket
+pub record IsIndexOf (words : List (List ℕ)) (buckets : ℕ) (slots : List Slot) (listed : List ℕ → Option ℕ) : Type 0 where
   pub power : 0 < buckets → IsPowerOfTwo buckets
-  pub wide : buckets ≤ length slots
-  pub room : 2 * length words ≤ buckets
+  pub wide : 0 < buckets → length slots ≡ buckets + 64
+  pub room : 5 * length words ≤ 4 * buckets
   pub short : (k : ℕ) → k < length words → IsShort (word_at words k)
-  pub index : IsIndex (word_at words) buckets slots overflow (length words)
+  pub index : IsIndex (word_at words) buckets slots listed (length words)

@@ -1,3 +1,4 @@
 pub mod Words
 pub mod Index
 pub mod Table
+pub mod Numbered

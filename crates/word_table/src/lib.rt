@@ -2,6 +2,8 @@
 #![tactic(auto)]
 
 mod index;
+mod numbered;
+mod slots;
 mod table;
 #[cfg(test)]
 mod tests;

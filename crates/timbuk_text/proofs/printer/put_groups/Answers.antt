@@ -14,18 +14,18 @@ pub loop-parent-init : goal.loop-parent-init
 loop-parent-init c = ([], ordered_none c.args.rules.now, sym (append-nil _))
 
 pub put_lines-requires : goal.put_lines-requires
-put_lines-requires c = subst (λ refs. All (IsRuleOver c.args.symbols.now (length c.args.states.now)) (map (λ r. r.now) refs)) (sym c.deref.ensures.value)
+put_lines-requires c = subst (λ refs. All (IsRuleOver c.args.symbols.now (length c.args.states.now)) (map (λ g. g.1.now) refs)) (sym c.deref.ensures.value)
     (in_group (IsRuleOver c.args.symbols.now (length c.args.states.now)) c.args.rules.now c.loop-parent.parent _ c.requires.places c.in_ok-group.ensures)
 
 pub loop-parent-preserved : goal.loop-parent-preserved
 loop-parent-preserved c =
     let h = c.loop-parent.invariant in
-    let group = map (λ r. r.now) c.group.new.group.items in
+    let group = map (λ g. g.1.now) c.group.new.group.items in
     let lines = rule_text c.args.symbols.now c.args.states.now in (
       h.0 ++ group,
       ordered_more c.args.rules.now c.loop-parent.parent h.0 group h.1 c.in_ok-group.ensures,
       more_lines lines h.0 group c.args.out.now.items c.loop-parent.out.items c.put_lines.new.out.items h.2
-          (c.in_ok-put_lines.ensures ∙ ap (λ refs. c.loop-parent.out.items ++ flat_map lines (map (λ r. r.now) refs)) c.deref.ensures.value),
+          (c.in_ok-put_lines.ensures ∙ ap (λ refs. c.loop-parent.out.items ++ flat_map lines (map (λ g. g.1.now) refs)) c.deref.ensures.value),
     )
 
 pub returns : goal.returns

@@ -1,9 +1,8 @@
-use Rattle.std.proofs.Common.{rules, ◌≡◌, ◌-◌, ◌≤◌, [], ℕ, length, sym, ap, ◌∙◌, arith}
+use Rattle.std.proofs.Common.{rules, ◌≡◌, ◌-◌, [], length, sym, ◌∙◌}
 use Rattle.std.proofs.lemmas.Bool.{eqb-true}
 use Rattle.std.proofs.lemmas.Option.{get_or_from_slice_get}
 use Rattle.std.proofs.lemmas.Slice.Eq.{bytes_eq-Decides}
-use Rattle.std.proofs.Math.Dec.{leb}
-use Rattle.word_table.specs.Index.{key_of, word_at}
+use Rattle.word_table.specs.Index.{word_at}
 use Rattle.word_table.proofs.Keys.{same_key}
 use Rattle.word_table.proofs.index.is_slot_of.Goals as goal
 use Rattle.word_table.proofs.index.is_slot_of.Goals.{Then-word-le-KEY_LEN, then-slot-key, else-slot-key}

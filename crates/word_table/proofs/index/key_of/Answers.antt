@@ -1,5 +1,5 @@
-use Rattle.std.proofs.Common.{◌≡◌, ◌<◌, ◌≤◌, ◌+◌, ◌-◌, ◌*◌, ◌^◌, ℕ, get_or, length, min, sym, ap, ◌∙◌, subst, arith}
-use Rattle.word_table.specs.Index.{AreBytes, key_of}
+use Rattle.std.proofs.Common.{◌≡◌, ◌+◌, ◌-◌, sym, ap, ◌∙◌, arith}
+use Rattle.word_table.specs.Index.{AreBytes}
 use Rattle.word_table.proofs.Keys.{key_from, key_from_before, key_from_below, key_from_end, key_from_start}
 use Rattle.word_table.proofs.index.key_of.Goals as goal
 

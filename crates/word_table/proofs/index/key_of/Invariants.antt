@@ -1,4 +1,4 @@
-use Rattle.std.proofs.Common.{◌≡◌, ◌≤◌}
+use Rattle.std.proofs.Common.{◌≡◌}
 use Rattle.word_table.proofs.Keys.{key_from}
 use Rattle.word_table.proofs.index.key_of.Given as goal
 

@@ -1,5 +1,5 @@
 use Rattle.word_table.proofs.Searching.{ArePassed}
-use Rattle.word_table.proofs.table.WordTable.place_of.Given as goal
+use Rattle.word_table.proofs.slots.SlotTable.place_of.Given as goal
 
 -- the slots so far are those of other words
 abbrev pub invariant-loop-at : goal.invariant-loop-at
