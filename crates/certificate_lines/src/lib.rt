@@ -19,6 +19,3 @@ pub use pair_laws::{only_printed_pairs_are_read, printed_pairs_are_read_back};
 pub use pairs::{put_pairs, read_pairs};
 pub use relation_laws::{only_printed_relations_are_read, printed_relations_are_read_back};
 pub use relations::{put_relation, read_relation};
-
-#[cfg(test)]
-mod tests;

@@ -6,7 +6,6 @@ pub mod Filed
 pub mod Marks
 pub mod Others
 pub mod Pushed
-pub mod Samples
 pub mod Sets
 pub mod Shifting
 pub mod Stepping

@@ -19,6 +19,3 @@ pub use apart::first_covered;
 pub use choices::first_refuted;
 pub use downward::is_down_simulation;
 pub use finals::first_uncovered_final;
-
-#[cfg(test)]
-mod tests;

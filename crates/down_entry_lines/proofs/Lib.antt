@@ -7,4 +7,3 @@ pub mod Standing
 pub mod Inverse
 pub mod Printed
 pub mod ReadBack
-pub mod Samples

@@ -13,8 +13,6 @@ mod laws;
 mod printer;
 mod reader;
 mod rule_places;
-#[cfg(test)]
-mod tests;
 mod written;
 
 pub use laws::{only_printed_down_entries_are_read, printed_down_entries_are_read_back};

@@ -9,8 +9,6 @@
 mod laws;
 mod printer;
 mod reader;
-#[cfg(test)]
-mod tests;
 mod written;
 
 pub use laws::{only_printed_up_entries_are_read, printed_up_entries_are_read_back};

@@ -5,8 +5,6 @@ pub mod Bridges
 pub mod Parts
 pub mod Tables
 pub mod Unions
-pub mod OneRule
 pub mod Stepping
 pub mod Grouping
 pub mod UpSteps
-pub mod Samples

@@ -14,6 +14,3 @@ mod upward;
 
 pub use explicit::Explicit;
 pub use pair::ExplicitPair;
-
-#[cfg(test)]
-mod tests;

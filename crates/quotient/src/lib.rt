@@ -58,6 +58,3 @@ pub fn reduce<T: Table>(alloc: Global, t: &T) -> Result<Listed, ReduceError>
     let merged = collapse(alloc, &list, &below)?;
     Ok(merged)
 }
-
-#[cfg(test)]
-mod tests;

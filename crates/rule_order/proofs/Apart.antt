@@ -16,3 +16,7 @@ rules_apart rules sorted p apart i j d before inside same =
     let numbers = apart_permutation nat_cmp_total exact_unsigned sorted (map fingerprint rules) (IsPermutation-sym _ _ p) apart in
     numbers i j (fingerprint d) before (subst (λ n. j < n) (sym (length-map rules fingerprint)) inside)
     (get_or-map fingerprint rules i d ∙ ap fingerprint same ∙ sym (get_or-map fingerprint rules j d))
+
+-- Sorted, numbers that are apart stay so.
+pub sorted_apart : (rules : List Rule) (sorted : List ℕ) → IsPermutation (map fingerprint rules) sorted → AllPairs ◌≢◌ (map fingerprint rules) → AllPairs ◌≢◌ sorted
+sorted_apart rules sorted p apart = apart_permutation nat_cmp_total exact_unsigned (map fingerprint rules) sorted p apart

@@ -7,6 +7,3 @@ mod group;
 
 pub use clusters::Clusters;
 pub use group::copied;
-
-#[cfg(test)]
-mod tests;

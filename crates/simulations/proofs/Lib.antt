@@ -2,7 +2,6 @@ pub mod Held
 pub mod ClearingSteps
 pub mod DownSteps
 pub mod Bridge
-pub mod TwoStates
 pub mod UpSteps
 pub mod FinalSteps
 pub mod SymbolSteps

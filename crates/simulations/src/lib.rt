@@ -8,8 +8,6 @@ mod downward;
 mod lost;
 mod ops;
 mod symbols;
-#[cfg(test)]
-mod tests;
 mod upward;
 
 pub use ops::{SimError, down, up};

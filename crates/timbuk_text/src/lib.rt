@@ -15,6 +15,3 @@ mod taking;
 pub use error::{Counted, TextError};
 pub use printer::print;
 pub use reader::Reader;
-
-#[cfg(test)]
-mod tests;

@@ -26,6 +26,3 @@ pub use listed_pairs::UpEntry;
 pub use stepping::{post, rules_by_symbol};
 pub use trail::{first_rejecting_entry, first_wrong_step};
 pub use upward::is_up_simulation;
-
-#[cfg(test)]
-mod tests;

@@ -41,6 +41,29 @@ const DOUBLED: &[u8] =
 const MERGED: &[u8] =
     b"Ops a:0 g:1\nAutomaton dup\nStates q s\nFinal States s\nTransitions\na -> q\ng(q) -> s\n";
 
+/// x is below y, so p is below s, but not the other way round; e has no rule and is below all.
+const LEAVES: &[u8] =
+    b"Ops a:0 b:0 f:2 Automaton t States x y p s e Final States Transitions a -> x a -> y b -> y f(x,x) -> p f(x,y) -> s";
+
+/// Only s is final. x is below y upward, since p is below s; z is below itself alone, since no rule has it
+/// beside another state.
+const PLACES: &[u8] =
+    b"Ops f:2 Automaton t States x y p s z Final States s Transitions f(x,x) -> p f(x,y) -> s f(y,x) -> s f(y,y) -> s f(z,z) -> p";
+
+/// q is below r, but r isn't below q. No tree reaches p.
+const BELOW: &[u8] =
+    b"Ops a:0 b:0 Automaton below States p q r Final States p q r Transitions a -> q a -> r b -> r";
+
+const BELOW_ALONE: &[u8] =
+    b"Ops a:0 b:0\nAutomaton below\nStates q r\nFinal States q r\nTransitions\na -> q\na -> r\nb -> r\n";
+
+/// Of the one class only the second member is final.
+const SECOND: &[u8] =
+    b"Ops a:0 g:1 Automaton final States q r Final States r Transitions a -> q a -> r g(q) -> q g(q) -> r";
+
+const SECOND_MERGED: &[u8] =
+    b"Ops a:0 g:1\nAutomaton final\nStates q\nFinal States q\nTransitions\na -> q\ng(q) -> q\n";
+
 #[test]
 fn requests_are_answered(rt: HostRuntime) {
     let alloc = rt.alloc();
@@ -85,7 +108,27 @@ fn requests_are_answered(rt: HostRuntime) {
             b"simulation down 2\nq 11\nr 11\n".as_slice(),
             b"".as_slice(),
         ),
+        (
+            "sim a",
+            LEAVES,
+            ALL,
+            0,
+            0,
+            b"simulation down 5\nx 11000\ny 01000\np 00110\ns 00010\ne 11111\n".as_slice(),
+            b"".as_slice(),
+        ),
+        (
+            "sim -o dir=up a",
+            PLACES,
+            ALL,
+            0,
+            0,
+            b"simulation up 5\nx 11000\ny 01000\np 11111\ns 00010\nz 00001\n".as_slice(),
+            b"".as_slice(),
+        ),
         ("red a", DOUBLED, ALL, 0, 0, MERGED, b"".as_slice()),
+        ("red a", BELOW, ALL, 0, 0, BELOW_ALONE, b"".as_slice()),
+        ("red a", SECOND, ALL, 0, 0, SECOND_MERGED, b"".as_slice()),
         // The fifth call reads the second file.
         (
             "union a b",
@@ -110,6 +153,7 @@ fn requests_are_answered(rt: HostRuntime) {
             a,
             b,
             c: b"",
+            piece: 1_000,
             unread,
             unwritten: 0,
         };

@@ -225,6 +225,7 @@ fn faults_of_a_check_are_told(rt: HostRuntime) {
             a: ALL,
             b: ONLY,
             c: SHARED,
+            piece: 1_000,
             unread,
             unwritten,
         };

@@ -10,6 +10,10 @@ mod checks;
 #[cfg(test)]
 mod inclusions;
 #[cfg(test)]
+mod limits;
+#[cfg(test)]
 mod loads;
 #[cfg(test)]
 mod running;
+#[cfg(test)]
+mod texts;

@@ -1,13 +1,9 @@
 //! Files that are loaded, and words that are not taken.
 
 use crate::running::{Given, ended, over, run_vata};
-use std::alloc::Global;
-use std::process::Abort;
 
 const ALL: &[u8] =
     b"Ops a:0 f:2\nAutomaton all\nStates q\nFinal States q\nTransitions\na -> q\nf(q,q) -> q\n";
-
-const EMPTY: &[u8] = b"Ops\nAutomaton e\nStates\nFinal States\nTransitions\n";
 
 #[test]
 fn load_answers_each_file(rt: HostRuntime) {
@@ -78,6 +74,13 @@ fn load_answers_each_file(rt: HostRuntime) {
             b"".as_slice(),
         ),
         (
+            "leading zeros, a number past 64 bits, other blanks",
+            b"Ops f:002 f:2\tAutomaton 7\r\nStates 0:99999999999999999999 0 Final States 0 0 Transitions f ( 0 , p:1 ) -> p".as_slice(),
+            0,
+            b"Ops f:2\nAutomaton 7\nStates 0 p\nFinal States 0\nTransitions\nf(0,p) -> p\n".as_slice(),
+            b"".as_slice(),
+        ),
+        (
             "no name",
             b"Ops Automaton States Final States Transitions".as_slice(),
             0,
@@ -99,6 +102,48 @@ fn load_answers_each_file(rt: HostRuntime) {
             b"limit: file 1 rank at 6\n".as_slice(),
         ),
         (
+            "a rank of 33 before a bad place",
+            b"Ops a:33 )".as_slice(),
+            5,
+            b"".as_slice(),
+            b"limit: file 1 rank at 6\n".as_slice(),
+        ),
+        (
+            "a rank of 33 behind a bad place",
+            b"Ops ) a:33".as_slice(),
+            4,
+            b"".as_slice(),
+            b"syntax: file 1 at 4\n".as_slice(),
+        ),
+        (
+            "a rank past 128 bits",
+            b"Ops a:0340282366920938463463374607431768211456".as_slice(),
+            5,
+            b"".as_slice(),
+            b"limit: file 1 rank at 6\n".as_slice(),
+        ),
+        (
+            "a rule of 33 children",
+            b"Ops Automaton x States Final States Transitions f(a,a,a,a,a,a,a,a,a,a,a,a,a,a,a,a,a,a,a,a,a,a,a,a,a,a,a,a,a,a,a,a,b)->a".as_slice(),
+            5,
+            b"".as_slice(),
+            b"limit: file 1 rank at 114\n".as_slice(),
+        ),
+        (
+            "no rank",
+            b"Ops a:b".as_slice(),
+            4,
+            b"".as_slice(),
+            b"syntax: file 1 at 6\n".as_slice(),
+        ),
+        (
+            "a section left out",
+            b"  Ops Final".as_slice(),
+            4,
+            b"".as_slice(),
+            b"syntax: file 1 at 6\n".as_slice(),
+        ),
+        (
             "no byte",
             b"".as_slice(),
             4,
@@ -113,8 +158,18 @@ fn load_answers_each_file(rt: HostRuntime) {
             b"syntax: file 1 at 0\n".as_slice(),
         ),
     ] {
-        let ran = run_vata(&rt, alloc, "load a", over(file, b"", b""));
-        ended(&rt, name, &ran, status, out, diag);
+        for piece in [1, 3, 1_000] {
+            let given = Given {
+                a: file,
+                b: b"",
+                c: b"",
+                piece,
+                unread: 0,
+                unwritten: 0,
+            };
+            let ran = run_vata(&rt, alloc, "load a", given);
+            ended(&rt, name, &ran, status, out, diag);
+        }
     }
 }
 
@@ -173,29 +228,11 @@ fn faults_are_told(rt: HostRuntime) {
             a: ALL,
             b: b"",
             c: b"",
+            piece: 1_000,
             unread,
             unwritten,
         };
         let ran = run_vata(&rt, alloc, words, given);
         ended(&rt, words, &ran, status, out, diag);
     }
-}
-
-/// The file that spells the empty automaton and is as long as that.
-fn padded(rt: &impl Abort, alloc: Global, spaces: usize) -> Vec<u8> {
-    let mut file = Vec::from_elem(alloc, b' ', spaces).expect(rt, "memory");
-    file.extend_from_slice(b"Ops Automaton e States Final States Transitions")
-        .expect(rt, "memory");
-    file
-}
-
-#[test]
-fn a_file_as_long_as_may_be_and_one_byte_longer(rt: HostRuntime) {
-    let alloc = rt.alloc();
-    let file = padded(&rt, alloc, 33_554_432 - 47);
-    let longest = run_vata(&rt, alloc, "load a", over(&file, b"", b""));
-    ended(&rt, "33,554,432 bytes", &longest, 0, EMPTY, b"");
-    let file = padded(&rt, alloc, 33_554_433 - 47);
-    let longer = run_vata(&rt, alloc, "load a", over(&file, b"", b""));
-    ended(&rt, "one more", &longer, 5, b"", b"limit: file 1 bytes\n");
 }

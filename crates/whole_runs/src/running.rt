@@ -19,6 +19,8 @@ pub struct Given<'a> {
     pub a: &'a [u8],
     pub b: &'a [u8],
     pub c: &'a [u8],
+    /// How many bytes a read gives at most, which is not 0.
+    pub piece: usize,
     /// The number of the call of the files that fails, or 0.
     pub unread: u64,
     /// The number of the write to `out` that fails, or 0.
@@ -36,7 +38,8 @@ fn words_of(rt: &impl Abort, alloc: Global, words: &str) -> Vec<String> {
 
 fn files_of(rt: &impl Abort, alloc: Global, given: Given<'_>) -> MemFiles {
     let failing = vec![in alloc; given.unread].expect(rt, "memory");
-    let mut files = MemFiles::new(alloc, 1_000, failing);
+    assert!(rt; given.piece > 0);
+    let mut files = MemFiles::new(alloc, given.piece, failing);
     files.add("a", given.a).expect(rt, "memory");
     files.add("b", given.b).expect(rt, "memory");
     files.add("c", given.c).expect(rt, "memory");
@@ -86,6 +89,7 @@ pub fn over<'a>(a: &'a [u8], b: &'a [u8], c: &'a [u8]) -> Given<'a> {
         a,
         b,
         c,
+        piece: 1_000,
         unread: 0,
         unwritten: 0,
     }

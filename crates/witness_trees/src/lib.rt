@@ -20,6 +20,3 @@ pub use printer::{print, put_kids, put_number};
 pub use reader::{NodesTextError, read};
 pub use states::reach;
 pub use symbol_places::SymbolPlaces;
-
-#[cfg(test)]
-mod tests;

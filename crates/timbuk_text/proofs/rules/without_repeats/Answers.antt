@@ -8,4 +8,4 @@ use Rattle.timbuk_text.proofs.rules.without_repeats.Goals as goal
 
 pub returns : goal.returns
 returns c = sym (first_is (eq_by_cmp rule_cmp) (ties_decide rules_total rules_exact) c.args.lines.items
-    (subst (AllPairs ◌≢◌) c.deref.ensures.value (c.in_ok-may_repeat.ensures c.if-branch.false)))
+    (subst (AllPairs ◌≢◌) c.deref.ensures.value (c.in_ok-may_repeat.ensures.no c.if-branch.false)))
