@@ -1,25 +1,8 @@
 #!/usr/bin/env bash
 # Times inclusions, and checks of the certificates that they print: inclusions.sh [VATA] [VATA_CHECK], by default
 # those of bin/ at the top.
-set -eu
-here=$(cd "$(dirname "$0")" && pwd)
-vata=${1:-$here/../bin/vata}
-check=${2:-$here/../bin/vata_check}
-data=$here/data
-mkdir -p "$data"
+. "$(dirname "$0")/common.sh"
 
-# made MAKER WORDS..: the file, made once.
-made() {
-  local maker=$1
-  shift
-  file=$data/$(IFS=_; echo "$*").tmb
-  [ -f "$file" ] || python3 "$here/$maker.py" "$@" > "$file"
-}
-timed() {
-  echo "$1"
-  shift
-  python3 "$here/time.py" "$@"
-}
 # asked NAME A B [SETTINGS]: the inclusion plain and with simulations, each with the check of its certificate.
 asked() {
   local cert settings sim
