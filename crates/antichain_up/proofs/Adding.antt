@@ -1,12 +1,12 @@
 -- What one more entry makes of a search.
-use Rattle.std.proofs.Common.{◌≡◌, ◌⊎◌, inl, inr, ℕ, ◌+◌, ◌<◌, ◌≤◌, List, [], ◌∷◌, ◌++◌, length, map, refl, sym, ap, ◌∙◌, subst, arith, length-append}
+use Rattle.std.proofs.Common.{◌≡◌, inl, inr, ℕ, ◌+◌, ◌<◌, ◌≤◌, List, [], ◌∷◌, ◌++◌, length, map, refl, sym, ap, ◌∙◌, subst, arith, length-append}
 use Rattle.std.specs.Prelude.{slice_index_or, All}
 use Rattle.std.proofs.lemmas.List.Elements.{All-contains}
 use Rattle.tree_definitions.specs.Automaton.{Automaton, IsState}
 use Rattle.tree_definitions.specs.Relation.{Holds, Has, IsAt}
 use Rattle.tree_definitions.specs.Cover.{FitsPair, Rejects}
 use Rattle.tree_definitions.specs.UpTrail.{UpEntry, IsUpStep}
-use Rattle.tree_definitions.proofs.Members.{at_within, contains_at}
+use Rattle.tree_definitions.proofs.Members.{contains_at}
 use Rattle.tree_definitions.proofs.Counting.{length-map}
 use Rattle.tree_definitions.proofs.Listing.{parent_state}
 use Rattle.ta_model.specs.Macrostates.{row_at}
@@ -14,7 +14,7 @@ use Rattle.upward_search.specs.Search.{IsKeptOver, IsSearch, AllAccept}
 use Rattle.upward_search.proofs.Covers.{adds_search, adds_grows, at_before, at_new, covers_itself}
 use Rattle.upward_search.proofs.Zips.{at_push, at_push_cases}
 use Rattle.antichain_up.specs.declared.search.Search.{Search}
-use Rattle.antichain_up.specs.Entries.{EntryRow, EntryList, IsEntryList, AreStored, Added, Kept, up_entry}
+use Rattle.antichain_up.specs.Entries.{EntryRow, EntryList, Added, Kept, up_entry}
 use Rattle.antichain_up.specs.Orders.{TwoOrders}
 use Rattle.antichain_up.specs.SearchState.{AreGiven, IsSound, IsGoing, IsRejected, IsFull, Moves, entries_of}
 use Rattle.antichain_up.proofs.Stepping.{new_entry, at_index}

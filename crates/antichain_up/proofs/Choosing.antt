@@ -1,7 +1,7 @@
 -- What stays true as tuples are chosen.
 use Rattle.std.proofs.Common.{◌≡◌, ◌⊎◌, inl, inr, ℕ, zero, suc, ◌+◌, ◌<◌, ◌≤◌, List, [], ◌∷◌, ◌++◌, length, map, take, refl, sym, ap, ◌∙◌, subst, arith, add-one, ⊎_elim, length-append, slice_set, Vec, Global}
 use Rattle.std.specs.Prelude.{◌≢◌, slice_index_or, Contains, IfOk, IsTrue, Bool, ◌↔◌, Result, Ok, Err, All}
-use Rattle.std.proofs.lemmas.List.{length-take-le, take-set, take_more_set}
+use Rattle.std.proofs.lemmas.List.{take-set, take_more_set}
 use Rattle.std.proofs.lemmas.List.Elements.{Contains-push, Contains-push_cases, Contains-append_left}
 use Rattle.smallvec.specs.SmallVec.{SmallVec}
 use Rattle.tree_definitions.specs.Automaton.{Automaton, IsAutomaton, IsState}
@@ -13,7 +13,6 @@ use Rattle.tree_definitions.proofs.Listing.{kid_states}
 use Rattle.ta_model.specs.Tuples.{kids_of}
 use Rattle.ta_model.specs.UpGroups.{HasKidsWith}
 use Rattle.upward_search.specs.Search.{IsOf, IsSearch}
-use Rattle.upward_search.proofs.Zips.{at_length}
 use Rattle.upward_search.proofs.Handled.{handled_grows, handled_chosen, handled_next, handled_without, zip_member}
 use Rattle.antichain_up.specs.declared.search.Search.{Search}
 use Rattle.antichain_up.specs.Entries.{EntryRow, AreCandidates, Kept, Done, up_entry}

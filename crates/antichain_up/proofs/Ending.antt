@@ -2,7 +2,7 @@
 use Rattle.std.proofs.Common.{◌≡◌, ◌⊎◌, inl, inr, ℕ, ◌+◌, ◌*◌, ◌^◌, ◌≤◌, ◌<◌, List, [], length, map, refl, sym, ap, ◌∙◌, subst, arith}
 use Rattle.std.specs.Prelude.{slice_index_or, All}
 use Rattle.tree_definitions.specs.Tree.{Symbol, Tree}
-use Rattle.tree_definitions.specs.Automaton.{Automaton, IsAutomaton, IsLabel}
+use Rattle.tree_definitions.specs.Automaton.{Automaton, IsAutomaton, IsNarrow, IsNumber}
 use Rattle.tree_definitions.specs.Joint.{joint_symbols}
 use Rattle.tree_definitions.specs.Relation.{Matrix, Holds, Has, IsAt, IsSquare}
 use Rattle.tree_definitions.specs.Simulation.{IsUp}
@@ -11,12 +11,11 @@ use Rattle.tree_definitions.specs.UpCert.{UpCert}
 use Rattle.tree_definitions.specs.UpTrail.{UpEntry, UpTrail, IsUpStep, HasPairBefore}
 use Rattle.tree_definitions.specs.Witness.{NodeRow, FitsNode, AreNodes, IsTreeOf, NoCert}
 use Rattle.tree_definitions.proofs.Counting.{length-map}
-use Rattle.tree_definitions.proofs.Listing.{rank_of}
+use Rattle.tree_definitions.proofs.Listing.{rank_of, at_number}
 use Rattle.tree_definitions.proofs.Members.{at_within, at_unique, contains_at}
 use Rattle.ta_model.specs.Macrostates.{Macrostates}
 use Rattle.listed_pairs.specs.Order.{AreRising}
 use Rattle.witness_trees.specs.Nodes.{NodeList, IsNodeList}
-use Rattle.certificate_kinds.specs.Fitting.{FitsUpEntry}
 use Rattle.certificate_kinds.specs.Certificates.{FitsRelation, FitsUp, FitsTree, FitsUpTrail}
 use Rattle.upward_search.specs.Search.{IsOrder, IsClosed, ListsKept}
 use Rattle.upward_search.proofs.Covers.{covers_itself}
@@ -29,6 +28,7 @@ use Rattle.antichain_up.specs.Entries.{EntryRow, EntryList, AreApart, Kept, node
 use Rattle.antichain_up.specs.Orders.{TwoOrders, AreOrders, IsUpOrder}
 use Rattle.antichain_up.specs.SearchState.{IsGoing, IsRejected, IsFull, entries_of}
 use Rattle.antichain_up.proofs.Joined.{joint_at}
+use Rattle.antichain_up.proofs.Listed.{rising_apart}
 use Rattle.antichain_up.proofs.Stepping.{at_map, at_index}
 
 abbrev empty_store : ℕ → Macrostates
@@ -78,10 +78,6 @@ empty_at A B orders budget m n store list left right same_store same_list =
     lists : {i k : ℕ} → i ≡ k → empty_list i ≡ empty_list k
     lists e = ap empty_list e
 
-is_label : (A : Automaton) (k : ℕ) (a : Symbol) → IsLabel A k a → IsAt A.symbols k a
-unfolding IsLabel
-is_label A k a l = l
-
 three : (i j : ℕ) → (i < j) ⊎ ((j < i) ⊎ (i ≡ j))
 three i j = grind arith
 
@@ -90,10 +86,10 @@ node_of e = record { symbol = e.symbol; kids = e.kids }
 
 -- an entry is a step from earlier ones: it has a symbol, and as many children as its rank
 module _ (A B : Automaton) (fits : IsAutomaton A) (entries : List UpEntry) (k : ℕ) (entry : UpEntry) (is : IsUpStep A B entries k entry) where
-  step_symbol : (a : Symbol) × IsAt A.symbols entry.symbol a × (length entry.kids ≡ a.rank)
-  step_symbol = (
+  step_number : (a : Symbol) × IsNumber A.bits A.symbols entry.symbol a × (length entry.kids ≡ a.rank)
+  step_number = (
     is.symbol,
-    is_label A entry.symbol is.symbol is.stands,
+    is.stands,
     zip_length (HasPairBefore entries k) entry.kids is.pairs is.named ∙ sym (length-map (λ (pair : Pair). pair.state) is.pairs)
         ∙ rank_of A fits is.symbol (map (λ pair. pair.state) is.pairs) entry.pair.state is.rule,
   )
@@ -124,9 +120,9 @@ module _ (A B : Automaton) (orders : TwoOrders) (budget : ℕ) (s : Search) wher
 
   pub up_answer : IsGoing A B orders budget s → IsUp A (Holds orders.left) → IsUp B (Holds orders.right)
       → IsClosed A B (Holds orders.left) (Holds orders.right) (entries_of s) (Kept s.entries) (Kept s.entries)
-      → (X : List Pair) → ListsKept (entries_of s) (Kept s.entries) X → UpCert A B (Holds orders.left) (Holds orders.right) X
-  up_answer going ul ur closed X lists =
-      closed_at_end_means_UpCert A B (Holds orders.left) (Holds orders.right) (entries_of s) (Kept s.entries) going.keeps going.accept ul ur closed X lists
+      → (X : List Pair) → ListsKept (entries_of s) (Kept s.entries) X → AreRising X → UpCert A B (Holds orders.left) (Holds orders.right) X
+  up_answer going ul ur closed X lists rising =
+      closed_at_end_means_UpCert A B (Holds orders.left) (Holds orders.right) (entries_of s) (Kept s.entries) going.keeps going.accept ul ur closed X lists (rising_apart X rising)
 
   pub up_fits : IsGoing A B orders budget s → budget ≤ 1000000 → FitsRelation (length A.states) orders.left → FitsRelation (length B.states) orders.right
       → (X : List Pair) → ListsKept (entries_of s) (Kept s.entries) X → AreRising X → length X ≤ length s.entries.rows → FitsUp A B orders.left orders.right X
@@ -153,28 +149,29 @@ module _ (A B : Automaton) (orders : TwoOrders) (budget : ℕ) (s : Search) wher
       subst (λ (y : UpEntry). IsAt (node_rows s.entries) i (record { symbol = y.symbol; kids = y.kids })) same (at_map node_of s.entries.rows i e.0 e.1)
 
   -- the entries are nodes
-  pub entry_nodes : IsAutomaton A → IsRejected A B orders s → (symbols : List Symbol) → symbols ≡ joint_symbols A.symbols B.symbols → AreNodes symbols (node_rows s.entries)
-  entry_nodes fits h symbols joint k node at =
-      let l = at_length (node_rows s.entries) k node at in
+  pub entry_nodes : IsAutomaton A → IsNarrow A → IsRejected A B orders s → (symbols : List Symbol) → symbols ≡ joint_symbols A.symbols B.symbols → AreNodes symbols (node_rows s.entries)
+  entry_nodes fits narrow h symbols joint k node here =
+      let l = at_length (node_rows s.entries) k node here in
       let n = length-map node_of s.entries.rows in
       let e = at_within s.entries.rows k (omega arith) in
       let entry : UpEntry = up_entry s.store e.0 in
       let is = h.keeps.steps k entry (at_map (up_entry s.store) s.entries.rows k e.0 e.1) in
-      let found = step_symbol A B fits (entries_of s) k entry is in
+      let found = step_number A B fits (entries_of s) k entry is in
+      let at : IsAt A.symbols e.0.symbol found.0 = at_number A.bits A.symbols e.0.symbol found.0 narrow found.1 in
       let fitting : FitsNode symbols k (node_of e.0) = record {
-        symbol = (found.0, subst (λ xs. IsAt xs e.0.symbol found.0) (sym joint) (joint_at A.symbols B.symbols e.0.symbol found.0 found.1), found.2);
+        symbol = (found.0, subst (λ xs. IsAt xs e.0.symbol found.0) (sym joint) (joint_at A.symbols B.symbols e.0.symbol found.0 at), found.2);
         earlier = step_earlier A B fits (entries_of s) k entry is;
       } in
-      subst (λ x. FitsNode symbols k x) (at_unique (node_rows s.entries) k (node_of e.0) node (at_map node_of s.entries.rows k e.0 e.1) at) fitting
+      subst (λ x. FitsNode symbols k x) (at_unique (node_rows s.entries) k (node_of e.0) node (at_map node_of s.entries.rows k e.0 e.1) here) fitting
 
   -- the tree of the last entry, as that of the last of some nodes
-  pub tree_answer : IsRejected A B orders s → (symbols : List Symbol) → symbols ≡ joint_symbols A.symbols B.symbols → (n : NodeList)
+  pub tree_answer : IsNarrow A → IsRejected A B orders s → (symbols : List Symbol) → symbols ≡ joint_symbols A.symbols B.symbols → (n : NodeList)
       → ((k : ℕ) (t : Tree) → length s.entries.rows ≡ k + 1 → IsTreeOf symbols (node_rows s.entries) k t → (last : ℕ) × (length n.rows ≡ last + 1) × IsTreeOf n.symbols n.rows last t)
       → NoCert A B n.symbols n.rows
-  tree_answer h symbols joint n moved =
+  tree_answer narrow h symbols joint n moved =
       let size = length-map node_of s.entries.rows in
       let cert = rejects_means_NoCert A B (entries_of s) h.keeps.steps symbols (node_rows s.entries)
-      (λ k a label. subst (λ xs. IsAt xs k a) (sym joint) (joint_at A.symbols B.symbols k a (is_label A k a label)))
+      (λ k a label. subst (λ xs. IsAt xs k a) (sym joint) (joint_at A.symbols B.symbols k a (at_number A.bits A.symbols k a narrow label)))
       node_at h.last h.entry h.stands (size ∙ h.count) h.rejects in
       let now = moved cert.last.0 cert.tree (sym size ∙ cert.last.1) cert.last.2 in
       record { tree = cert.tree; last = (now.0, now.1, now.2); accepted = cert.accepted; refused = cert.refused }
@@ -196,7 +193,7 @@ module _ (A B : Automaton) (orders : TwoOrders) (budget : ℕ) (s : Search) wher
       count = many ∙ h.count;
       fitting = λ k entry at. record {
         pair = h.keeps.fits k entry at;
-        symbol = step_symbol A B fits (entries_of s) k entry (h.keeps.steps k entry at);
+        symbol = step_number A B fits (entries_of s) k entry (h.keeps.steps k entry at);
         earlier = step_earlier A B fits (entries_of s) k entry (h.keeps.steps k entry at);
       };
     };

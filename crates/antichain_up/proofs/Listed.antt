@@ -154,6 +154,17 @@ sorted_rises n pairs sorted wide distinct moved order i j d l m =
     apart : AllPairs ◌≢◌ sorted
     apart = still_distinct n pairs sorted wide distinct moved
 
+-- a pair doesn't precede itself
+unlike : (x y : Pair) → pair_cmp x y ≡ Less → x ≢ y
+unlike x y less same =
+    let here : pair_cmp x x ≡ Less = subst (λ z. pair_cmp x z ≡ Less) (sym same) less in
+    let turned = pairs_total.antisymm x x in
+    cc (here, turned)
+
+-- pairs that rise are distinct
+pub rising_apart : (pairs : List Pair) → AreRising pairs → AllPairs ◌≢◌ pairs
+rising_apart pairs rising i j d l m = unlike (get_or pairs i d) (get_or pairs j d) (rising i j d l m)
+
 pub all_wide : (store : Macrostates) (rows : List EntryRow) (kept : Row) (n : ℕ) (pairs : List Pair) → AreMacrostates store → All (λ e. e.set < length store.rows) rows
     → IsListing store rows kept n pairs → All (λ pair. length pair.set ≡ store.states) pairs
 all_wide store rows kept n pairs valid stored before i d l =

@@ -1,19 +1,19 @@
 -- One round of the search.
-use Rattle.std.proofs.Common.{◌≡◌, ◌⊎◌, inl, inr, ℕ, ◌+◌, ◌≤◌, ◌<◌, List, [], ◌∷◌, length, map, true, refl, sym, ap, ◌∙◌, subst, arith}
-use Rattle.std.specs.Prelude.{◌≢◌, Contains}
+use Rattle.std.proofs.Common.{◌≡◌, inl, inr, ℕ, ◌+◌, ◌≤◌, ◌<◌, List, [], ◌∷◌, length, true, subst, arith}
+use Rattle.std.specs.Prelude.{◌≢◌}
 use Rattle.std.specs.List.{AllZip}
 use Rattle.tree_definitions.specs.Cover.{Pair}
-use Rattle.tree_definitions.specs.Automaton.{Automaton, HasRule}
-use Rattle.tree_definitions.specs.Relation.{Holds, IsAt}
+use Rattle.tree_definitions.specs.Automaton.{Automaton}
+use Rattle.tree_definitions.specs.Relation.{Holds}
 use Rattle.tree_definitions.proofs.Members.{at_within}
 use Rattle.tree_definitions.proofs.Counting.{length-map}
 use Rattle.upward_search.specs.Search.{IsClosed, IsOf, IsStepped}
 use Rattle.upward_search.proofs.Zips.{zip_map, at_length}
 use Rattle.upward_search.proofs.Handled.{closed_more, closed_leaves}
 use Rattle.antichain_up.specs.declared.search.Search.{Search}
-use Rattle.antichain_up.specs.Entries.{EntryRow, Kept, Done, up_entry}
+use Rattle.antichain_up.specs.Entries.{Kept, Done, up_entry}
 use Rattle.antichain_up.specs.Orders.{TwoOrders, AreOrders}
-use Rattle.antichain_up.specs.SearchState.{IsGoing, Moves, Handles, HandlesAll, StepsFrom, entries_of}
+use Rattle.antichain_up.specs.SearchState.{IsGoing, Moves, HandlesAll, StepsFrom, entries_of}
 use Rattle.antichain_up.proofs.Stepping.{at_map, below}
 
 -- each step from entries that are done is covered by a kept one

@@ -1,10 +1,10 @@
 -- What stays true as steps are offered.
-use Rattle.std.proofs.Common.{◌≡◌, ◌⊎◌, inl, inr, ℕ, zero, suc, ◌+◌, ◌<◌, ◌≤◌, List, [], ◌∷◌, ◌++◌, length, map, Some, refl, sym, ap, ◌∙◌, subst, arith}
+use Rattle.std.proofs.Common.{◌≡◌, ◌⊎◌, inl, inr, ℕ, zero, suc, ◌+◌, ◌<◌, ◌≤◌, List, [], ◌∷◌, length, map, Some, refl, sym, ap, ◌∙◌, subst, arith}
 use Rattle.std.specs.Prelude.{slice_index_or, Contains, All}
 use Rattle.std.specs.List.{AllZip}
 use Rattle.std.proofs.lemmas.List.Elements.{All-contains}
 use Rattle.tree_definitions.specs.Tree.{Symbol}
-use Rattle.tree_definitions.specs.Automaton.{Automaton, HasRule, IsLabel, IsState}
+use Rattle.tree_definitions.specs.Automaton.{Automaton, HasRule, IsNumber, IsState}
 use Rattle.tree_definitions.specs.Relation.{Holds, Row, Has, IsAt, AreEqual}
 use Rattle.tree_definitions.specs.Cover.{Pair, Post}
 use Rattle.tree_definitions.specs.UpTrail.{UpEntry, IsUpStep, HasPairBefore}
@@ -13,14 +13,14 @@ use Rattle.tree_definitions.proofs.Counting.{length-map}
 use Rattle.ta_model.specs.declared.joint.UpGroup.{UpGroup}
 use Rattle.ta_model.specs.Macrostates.{Macrostates, AreMacrostates, StoreGrows, row_at}
 use Rattle.ta_model.specs.UpGroups.{IsUpGroup, AreUpGroups}
-use Rattle.upward_search.specs.Search.{IsOf, IsKeptOver, IsStepped, Grows, IsSearch, AllAccept}
+use Rattle.upward_search.specs.Search.{IsKeptOver, Grows, IsSearch, AllAccept}
 use Rattle.upward_search.proofs.Covers.{kept_over_grows}
 use Rattle.upward_search.proofs.Zips.{at_length, zip_map}
 use Rattle.antichain_up.specs.declared.search.Search.{Search}
 use Rattle.antichain_up.specs.declared.search.Progress.{Progress}
 use Rattle.antichain_up.specs.Entries.{EntryRow, EntryList, IsEntryList, AreStored, Kept, up_entry}
 use Rattle.antichain_up.specs.Orders.{TwoOrders, AreOrders}
-use Rattle.antichain_up.specs.SearchState.{AreGiven, IsGoing, IsAfter, IsSound, Moves, ArePicked, StepsFrom, entries_of}
+use Rattle.antichain_up.specs.SearchState.{IsGoing, IsAfter, IsSound, Moves, ArePicked, StepsFrom, entries_of}
 
 -- an entry to come
 abbrev pub new_entry : Macrostates → ℕ → ℕ → ℕ → List ℕ → UpEntry
@@ -63,11 +63,6 @@ entries_same old new grow (e ∷ es) h = cong2 (one e (h 0 e refl)) (entries_sam
     cong2 : {x y : UpEntry} {xs ys : List UpEntry} → x ≡ y → xs ≡ ys → x ∷ xs ≡ y ∷ ys
     cong2 p q = cc
 
--- a place stands for one symbol
-pub label_unique : (A : Automaton) (k : ℕ) (a b : Symbol) → IsLabel A k a → IsLabel A k b → a ≡ b
-unfolding IsLabel
-label_unique A k a b x y = at_unique A.symbols k a b x y
-
 -- the pairs of chosen entries
 pub record PickedPairs (s : Search) (kids chosen sets : List ℕ) : Type 0 where
   pub pairs : List Pair
@@ -101,11 +96,11 @@ later_named s s' moves chosen pairs z =
 
 module _ (A B : Automaton) (orders : TwoOrders) (s s' : Search) (kids chosen sets : List ℕ) (picked : PickedPairs s kids chosen sets) (moves : Moves s s') where
   -- a parent of a group is a step from the chosen entries
-  pub group_step : (a : Symbol) (group : UpGroup) (p : ℕ) → IsUpGroup A B kids (map (row_at s.store) sets) s'.store a group → Contains group.parents.items p
+  pub group_step : (a : Symbol) (group : UpGroup) (p : ℕ) → IsNumber A.bits A.symbols group.symbol a → IsUpGroup A B kids (map (row_at s.store) sets) s'.store a group → Contains group.parents.items p
       → IsUpStep A B (entries_of s') (length s'.entries.rows) (new_entry s'.store p group.set group.symbol chosen)
-  group_step a group p is m = record {
+  group_step a group p number is m = record {
     symbol = a;
-    stands = is.label;
+    stands = number;
     pairs = picked.pairs;
     named = later_named s s' moves chosen picked.pairs picked.named;
     rule = subst (λ ks. HasRule A a ks p) (sym picked.states) ((is.parents p).0 m);

@@ -11,7 +11,7 @@ use Rattle.upward_search.specs.Search.{IsOf, IsSearch, IsStepped, AllAccept, Gro
 use Rattle.antichain_up.specs.declared.search.Search.{Search}
 use Rattle.antichain_up.specs.declared.search.Progress.{Progress}
 use Rattle.antichain_up.specs.declared.search.Progress.TheVariants.{Going, Rejected, Full}
-use Rattle.antichain_up.specs.Entries.{EntryRow, IsEntryList, AreStored, IsEntryAt, Kept, Done, up_entries}
+use Rattle.antichain_up.specs.Entries.{EntryRow, IsEntryList, AreStored, Kept, Done, up_entries}
 use Rattle.antichain_up.specs.Orders.{TwoOrders, AreOrders}
 
 -- the entries with their sets

@@ -362,38 +362,31 @@ fn run<J: Joint>(
     Ok(Progress::Going)
 }
 
-/// Whether each tree that the left automaton accepts is accepted by the right one: pairs from which
-/// this follows, a tree that the left one alone accepts, or a trail, where neither was found within
-/// `budget` pairs. `left` and `right` are upward simulations of the two, and are told in the answer.
-pub fn includes<J: Joint>(
-    alloc: Global,
-    j: &mut J,
-    left: &Matrix,
-    right: &Matrix,
+/// The answer of a search that stands like this.
+fn told<J: Joint>(
+    j: &J,
+    search: &Search,
+    orders: Orders,
     budget: u64,
+    progress: Progress,
 ) -> Result<Certificate, AllocError>
-    requires left { IsUpOrder (J.left j.old) left.now }
-    requires right { IsUpOrder (J.right j.old) right.now }
+    requires left { IsUpOrder (J.left j.now) orders.left }
+    requires right { IsUpOrder (J.right j.now) orders.right }
     requires some { 1 ≤ budget }
     requires few { budget ≤ 1000000 }
-    ensures left { J.left j.new ≡ J.left j.old }
-    ensures right { J.right j.new ≡ J.right j.old }
-    ensures nodes { J.nodes j.new ≡ J.nodes j.old }
-    ensures answer { IfOk result (IsUpAnswer (J.left j.old) (J.right j.old) left.now right.now budget) }
-    ensures decided { length (J.left j.old).states * 2 ^ length (J.right j.old).states ≤ budget
+    requires after { IsAfter (J.left j.now) (J.right j.now) orders budget progress search.now }
+    requires closed { WhenGoing progress
+        (IsClosed (J.left j.now) (J.right j.now) (Holds orders.left) (Holds orders.right)
+        (entries_of search.now) (Kept search.now.entries) (Kept search.now.entries)) }
+    ensures answer { IfOk result (IsUpAnswer (J.left j.now) (J.right j.now) orders.left orders.right budget) }
+    ensures decided { length (J.left j.now).states * 2 ^ length (J.right j.now).states ≤ budget
         → IfOk result IsDecided }
 {
-    let orders = Orders::of(left, right)?;
-    // The sizes tell the proof that the relations can be written.
-    let _lefts = left.size();
-    let _rights = right.size();
-    let (lefts, rights) = j.sizes();
-    let mut search = Search {
-        store: MacroStore::new(alloc, rights as usize),
-        entries: Entries::new(alloc, lefts)?,
-        next: 0,
-    };
-    match run(j, &mut search, &orders, budget as usize)? {
+    // The sizes tell the proof that the relations can be written, and that the two are automata.
+    let _lefts = orders.left.size();
+    let _rights = orders.right.size();
+    let _states = j.sizes();
+    match progress {
         Progress::Going => {
             let pairs = search.entries.kept_pairs(&search.store)?;
             Ok(Certificate::Up {
@@ -416,4 +409,36 @@ pub fn includes<J: Joint>(
             })
         }
     }
+}
+
+/// Whether each tree that the left automaton accepts is accepted by the right one: pairs from which
+/// this follows, a tree that the left one alone accepts, or a trail, where neither was found within
+/// `budget` pairs. `left` and `right` are upward simulations of the two, and are told in the answer.
+pub fn includes<J: Joint>(
+    alloc: Global,
+    j: &mut J,
+    left: &Matrix,
+    right: &Matrix,
+    budget: u64,
+) -> Result<Certificate, AllocError>
+    requires left { IsUpOrder (J.left j.old) left.now }
+    requires right { IsUpOrder (J.right j.old) right.now }
+    requires some { 1 ≤ budget }
+    requires few { budget ≤ 1000000 }
+    ensures left { J.left j.new ≡ J.left j.old }
+    ensures right { J.right j.new ≡ J.right j.old }
+    ensures nodes { J.nodes j.new ≡ J.nodes j.old }
+    ensures answer { IfOk result (IsUpAnswer (J.left j.old) (J.right j.old) left.now right.now budget) }
+    ensures decided { length (J.left j.old).states * 2 ^ length (J.right j.old).states ≤ budget
+        → IfOk result IsDecided }
+{
+    let orders = Orders::of(left, right)?;
+    let (lefts, rights) = j.sizes();
+    let mut search = Search {
+        store: MacroStore::new(alloc, rights as usize),
+        entries: Entries::new(alloc, lefts)?,
+        next: 0,
+    };
+    let progress = run(j, &mut search, &orders, budget as usize)?;
+    told(&*j, &search, orders, budget, progress)
 }

@@ -7,8 +7,6 @@
 mod block;
 mod matrix;
 mod rows;
-#[cfg(test)]
-mod tests;
 mod turn;
 
 pub use matrix::{Matrix, MatrixError};

@@ -7,7 +7,5 @@
 mod first;
 mod lanes;
 mod row;
-#[cfg(test)]
-mod tests;
 
 pub use row::Row;

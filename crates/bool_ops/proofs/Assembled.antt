@@ -4,10 +4,11 @@ use Rattle.std.specs.Prelude.{Contains, AllPairs}
 use Rattle.std.specs.List.{AllZip}
 use Rattle.std.proofs.lemmas.Option.{slice_get_within}
 use Rattle.tree_definitions.specs.Tree.{Symbol}
-use Rattle.tree_definitions.specs.Automaton.{Automaton, Rule, IsLabel, IsRule, HasRule}
+use Rattle.tree_definitions.specs.Automaton.{Automaton, Rule, IsNarrow, IsRule, HasRule, IsAutomaton}
 use Rattle.tree_definitions.specs.Product.{Both, Precedes, MultipliesTo, pair_name}
 use Rattle.tree_definitions.specs.Relation.{Row, Has, IsAt}
 use Rattle.tree_definitions.specs.Joint.{joint_symbols}
+use Rattle.tree_definitions.proofs.Listing.{label_at, at_label}
 use Rattle.tree_definitions.proofs.Members.{at_unique, place_of, contains_at}
 use Rattle.bool_ops.specs.Closing.{both, AreAlike, AreHeld, IsClosed}
 use Rattle.bool_ops.specs.Joined.{StandFor, IsPairOf, AreFinals, pairs_of}
@@ -70,7 +71,7 @@ module _ (A B : Automaton) (S : List Symbol) (theirs : List Rule) (pairs found Z
     (lefts : (q : ℕ) → Has L q ↔ Contains A.finals q) (rights : (q : ℕ) → Has R q ↔ Contains B.finals q) (finals : AreFinals Z L R (length Z) fs)
     (zip : AllZip (IsPairOf A.rules theirs Z) found rs) where
   abbrev U : Automaton
-  U = record { name = codes "isect"; symbols = S; states = map pair_name Z; finals = fs; rules = rs }
+  U = record { bits = 0; name = codes "isect"; symbols = S; states = map pair_name Z; finals = fs; rules = rs }
 
   -- what is known of the rule at a place
   pub alike_at : (y : Both) (rule : Rule) → Contains found y → (m : IsPairOf A.rules theirs Z y rule) → AreAlike m.left m.right
@@ -81,14 +82,14 @@ module _ (A B : Automaton) (S : List Symbol) (theirs : List Rule) (pairs found Z
 
   rule_out : (a : Symbol) (kids : List ℕ) (k : ℕ) → HasRule U a kids k → (xs : List Both) × (x : Both) × AllZip (IsAt Z) kids xs × IsAt Z k x
       × HasRule A a (map (λ x. x.left) xs) x.left × HasRule B a (map (λ x. x.right) xs) x.right
-  unfolding IsRule IsLabel
+  unfolding IsRule
   rule_out a kids k (r, (n, label, at)) =
       let rule : Rule = record { symbol = n; kids = kids; parent = k } in
       let pair = zip_at (IsPairOf A.rules theirs Z) found rs r rule zip at in
       let y = pair.0 in
       let m = pair.2 in
       let alike = alike_at y rule (contains_at found r y pair.1) m in
-      let here : IsAt S m.left.symbol a = subst (λ z. IsAt S z a) m.symbol label in
+      let here : IsAt S m.left.symbol a = subst (λ z. IsAt S z a) m.symbol (at_label U n a refl label) in
       let there : IsAt S m.right.symbol a = subst (λ z. IsAt S z a) alike.symbol here in (
         pairs_of m.left.kids m.right.kids,
         both m.left.parent m.right.parent,
@@ -106,7 +107,7 @@ module _ (A B : Automaton) (S : List Symbol) (theirs : List Rule) (pairs found Z
 
   rule_in : (a : Symbol) (kids : List ℕ) (k : ℕ) → ((xs : List Both) × (x : Both) × AllZip (IsAt Z) kids xs × IsAt Z k x
       × HasRule A a (map (λ x. x.left) xs) x.left × HasRule B a (map (λ x. x.right) xs) x.right) → HasRule U a kids k
-  unfolding IsRule IsLabel
+  unfolding IsRule
   rule_in a kids k (xs, x, kz, kat, ha, hb) =
       let ps = map (λ x. x.left) xs in
       let qs = map (λ x. x.right) xs in
@@ -135,12 +136,13 @@ module _ (A B : Automaton) (S : List Symbol) (theirs : List Rule) (pairs found Z
       subst (λ z. IsAt rs place.0 (record { symbol = m.1; kids = kids; parent = z })) parent
       (subst (λ z. IsAt rs place.0 (record { symbol = m.1; kids = z; parent = rule.parent })) same
       (subst (λ z. IsAt rs place.0 (record { symbol = z; kids = rule.kids; parent = rule.parent })) symbol made.1)) in
-      (place.0, (m.1, m.2, there))
+      (place.0, (m.1, label_at U m.1 a refl m.2, there))
 
-  pub multiplies : MultipliesTo A B U Z
-  multiplies = record {
+  pub multiplies : IsNarrow A → IsAutomaton U → MultipliesTo A B U Z
+  multiplies narrow fitting = record {
+    bits = sym narrow;
     name = refl;
-    symbols = joint;
+    symbols = λ n. joint;
     rising = rising;
     reached = λ x.
         let t = together_exactly S (HasRule A) (HasRule B) A.rules theirs f x in
@@ -151,4 +153,5 @@ module _ (A B : Automaton) (S : List Symbol) (theirs : List Rule) (pairs found Z
       λ (x, at, l, r). (finals.members k).1 (slice_get_within Z k x at, (x, at, (lefts x.left).1 l, (rights x.right).1 r)),
     );
     rules = λ a kids k. (rule_out a kids k, rule_in a kids k);
+    fitting = fitting;
   }

@@ -5,10 +5,9 @@ use Rattle.tree_definitions.specs.Automaton.{Automaton, HasRule}
 use Rattle.tree_definitions.specs.Canonical.{canon}
 use Rattle.tree_definitions.specs.Language.{Reaches, Accepts}
 use Rattle.tree_definitions.specs.Product.{Both, IsProduct, AreReachedTogether}
-use Rattle.tree_definitions.proofs.InOrder.{canon_finals, canon_language}
+use Rattle.tree_definitions.proofs.InOrder.{canon_finals, canon_language, rule_in, rule_out}
 use Rattle.tree_definitions.proofs.Joins.{reaches_more}
 use Rattle.tree_definitions.proofs.Multiplied.{product_accepts}
-use Rattle.trim_ops.proofs.SameRules.{rule_in, rule_out}
 use Rattle.bool_ops.specs.Results.{IsCanonicalProduct, HasMoreStates, HasMoreRules, PairRule, IsProductRule}
 
 reach_out : (A : Automaton) (t : Tree) (q : ℕ) → Reaches (canon A) t q → Reaches A t q
@@ -63,6 +62,7 @@ pub product_out : (A B P : Automaton) → IsProduct (canon A) (canon B) P → Is
 product_out A B P (pairs, m) = (
   pairs,
   record {
+    bits = m.bits;
     name = m.name;
     symbols = m.symbols;
     rising = m.rising;
@@ -81,6 +81,7 @@ product_out A B P (pairs, m) = (
           (g.0, g.1, g.2, g.3, rule_out A a (map (λ x. x.left) g.0) g.1.left g.4, rule_out B a (map (λ x. x.right) g.0) g.1.right g.5),
       λ h. (m.rules a kids k).1 (h.0, h.1, h.2, h.3, rule_in A a (map (λ x. x.left) h.0) h.1.left h.4, rule_in B a (map (λ x. x.right) h.0) h.1.right h.5),
     );
+    fitting = m.fitting;
   },
 )
 

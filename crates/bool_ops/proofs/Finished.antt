@@ -1,5 +1,5 @@
 -- What the parts of a product say of its states and rules.
-use Rattle.std.proofs.Common.{◌≢◌, inl, inr, ℕ, ◌<◌, ◌^◌, List, length, get_or, ap, ◌∙◌, arith}
+use Rattle.std.proofs.Common.{◌≢◌, inl, inr, ℕ, ◌<◌, ◌^◌, List, length, get_or, ap, ◌∙◌, subst, arith}
 use Rattle.std.specs.Prelude.{All, Contains, AllPairs, ◌↔◌}
 use Rattle.std.proofs.lemmas.List.Elements.{Contains-get_or}
 use Rattle.std.proofs.lemmas.Option.{slice_get_within}
@@ -7,9 +7,10 @@ use Rattle.tree_definitions.specs.Tree.{Symbol, Tree, Node}
 use Rattle.tree_definitions.specs.Automaton.{Automaton, Rule, HasRule, IsAutomaton, IsState}
 use Rattle.tree_definitions.specs.Language.{ReachesBy}
 use Rattle.tree_definitions.specs.Product.{Both, Precedes}
+use Rattle.tree_definitions.specs.Relation.{IsAt}
 use Rattle.tree_definitions.proofs.Listing.{parent_state}
 use Rattle.tree_definitions.proofs.Members.{at_unique}
-use Rattle.bool_ops.specs.Closing.{IsClosed}
+use Rattle.bool_ops.specs.Closing.{both, Together, by_rules, Fits, IsClosed}
 use Rattle.bool_ops.specs.Joined.{StandFor, FitTogether}
 use Rattle.bool_ops.proofs.Bridge.{together_exactly}
 
@@ -42,7 +43,13 @@ module _ (A B : Automaton) (S : List Symbol) (theirs : List Rule) (pairs found Z
       let right : (get_or Z k d).right < length B.states = h.1 in
       (omega arith, omega arith)
 
-  pub all_fit : All (FitTogether A.rules theirs) found
+  parent_in : (y : Both) (h : Fits A.rules theirs pairs y) → Contains Z (both h.left.parent h.right.parent)
+  parent_in y h =
+      let kids : (i p q : ℕ) → IsAt h.left.kids i p → IsAt h.right.kids i q → Together A.rules theirs (both p q) = λ i p q pat qat. (c.exact (both p q)).0 (h.held i p q pat qat) in
+      (members (both h.left.parent h.right.parent)).1
+      ((c.exact (both h.left.parent h.right.parent)).1 (by_rules y.left y.right h.left h.right h.left_at h.right_at h.alike kids))
+
+  pub all_fit : All (FitTogether A.rules theirs Z) found
   all_fit k d l =
       let y = get_or found k d in
       let h = c.fits y (Contains-get_or found k d l) in
@@ -52,4 +59,11 @@ module _ (A B : Automaton) (S : List Symbol) (theirs : List Rule) (pairs found Z
         kids = λ p q pat qat.
             ap (λ (o : Rule). length o.kids) (at_unique A.rules y.left p h.left pat h.left_at) ∙ h.alike.kids
             ∙ ap (λ (o : Rule). length o.kids) (at_unique theirs y.right h.right q h.right_at qat);
+        held = λ p q pat qat i a b aat bat.
+            let left : IsAt h.left.kids i a = subst (λ (o : Rule). IsAt o.kids i a) (at_unique A.rules y.left p h.left pat h.left_at) aat in
+            let right : IsAt h.right.kids i b = subst (λ (o : Rule). IsAt o.kids i b) (at_unique theirs y.right q h.right qat h.right_at) bat in
+            (members (both a b)).1 (h.held i a b left right);
+        parent = λ p q pat qat.
+            subst (λ (o : Rule). Contains Z (both o.parent q.parent)) (at_unique A.rules y.left h.left p h.left_at pat)
+            (subst (λ (o : Rule). Contains Z (both h.left.parent o.parent)) (at_unique theirs y.right h.right q h.right_at qat) (parent_in y h));
       }

@@ -6,6 +6,7 @@ pub mod Ended
 pub mod Bridge
 pub mod Stands
 pub mod Ordered
+pub mod Names
 pub mod Parts
 pub mod Assembled
 pub mod WellFormed

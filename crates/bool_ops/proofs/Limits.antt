@@ -4,11 +4,14 @@ use Rattle.std.specs.Prelude.{Contains, AllPairs}
 use Rattle.std.specs.List.{AllZip}
 use Rattle.std.proofs.lemmas.List.{length-map}
 use Rattle.tree_definitions.specs.Tree.{Symbol}
-use Rattle.tree_definitions.specs.Automaton.{Automaton, Rule, IsRule, IsLabel, HasRule, IsAutomaton}
+use Rattle.tree_definitions.specs.Automaton.{Automaton, Rule, IsNarrow, IsRule, HasRule}
 use Rattle.tree_definitions.specs.Joint.{joint_symbols}
 use Rattle.tree_definitions.specs.Product.{Both, AreReachedTogether}
 use Rattle.tree_definitions.specs.Relation.{IsAt}
+use Rattle.tree_definitions.proofs.Listing.{label_at, at_label}
 use Rattle.tree_definitions.proofs.Members.{at_unique, place_of, contains_at}
+use Rattle.tree_definitions.proofs.Standing.{label_once}
+use Rattle.ta_model.specs.Listing.{IsListed}
 use Rattle.bool_ops.specs.Closing.{both, AreAlike, AreHeld, Fits, IsClosed, HasTooMany}
 use Rattle.bool_ops.specs.Joined.{StandFor, pairs_of, renumbered}
 use Rattle.bool_ops.specs.Results.{HasMoreStates, HasMoreRules, PairRule, IsProductRule}
@@ -20,35 +23,38 @@ use Rattle.bool_ops.proofs.Stands.{fits_at, from_map, at_map, zip_at, left_symbo
 use Rattle.bool_ops.proofs.WellFormed.{zip_length}
 
 -- one rule stands at one place
-one_place : (A : Automaton) → IsAutomaton A → (r s : ℕ) (a : Symbol) (kids : List ℕ) (p : ℕ) → IsRule A r a kids p → IsRule A s a kids p → r ≡ s
-unfolding IsRule IsLabel
-one_place A fits r s a kids p (k, label, at) (l, label2, at2) =
-    let same : k ≡ l = at_distinct A.symbols k l a fits.symbols label label2 in
-    at_distinct A.rules r s (record { symbol = l; kids = kids; parent = p }) fits.rules (subst (λ z. IsAt A.rules r (record { symbol = z; kids = kids; parent = p })) same at) at2
+one_place : (A : Automaton) → IsListed A → (r s : ℕ) (a : Symbol) (kids : List ℕ) (p : ℕ) → IsRule A r a kids p → IsRule A s a kids p → r ≡ s
+unfolding IsRule
+one_place A listed r s a kids p (k, label, at) (l, label2, at2) =
+    let same : k ≡ l = label_once A listed.automaton listed.narrow k l a label label2 in
+    at_distinct A.rules r s (record { symbol = l; kids = kids; parent = p }) listed.automaton.rules (subst (λ z. IsAt A.rules r (record { symbol = z; kids = kids; parent = p })) same at) at2
 
 -- one place has one rule
-one_rule : (A : Automaton) (r : ℕ) (a b : Symbol) (ks ls : List ℕ) (p q : ℕ) → IsRule A r a ks p → IsRule A r b ls q → (a ≡ b) × (ks ≡ ls) × (p ≡ q)
-unfolding IsRule IsLabel
-one_rule A r a b ks ls p q (k, label, at) (l, label2, at2) =
+one_rule : (A : Automaton) → IsNarrow A → (r : ℕ) (a b : Symbol) (ks ls : List ℕ) (p q : ℕ) → IsRule A r a ks p → IsRule A r b ls q → (a ≡ b) × (ks ≡ ls) × (p ≡ q)
+unfolding IsRule
+one_rule A narrow r a b ks ls p q (k, label, at) (l, label2, at2) =
     let one : Rule = record { symbol = k; kids = ks; parent = p } in
     let other : Rule = record { symbol = l; kids = ls; parent = q } in
-    let same : one ≡ other = at_unique A.rules r one other at at2 in
-    (at_unique A.symbols l a b (subst (λ z. IsAt A.symbols z a) (ap (λ (o : Rule). o.symbol) same) label) label2, ap (λ (o : Rule). o.kids) same, ap (λ (o : Rule). o.parent) same)
+    let same : one ≡ other = at_unique A.rules r one other at at2 in (
+      at_unique A.symbols l a b (subst (λ z. IsAt A.symbols z a) (ap (λ (o : Rule). o.symbol) same) (at_label A k a narrow label)) (at_label A l b narrow label2),
+      ap (λ (o : Rule). o.kids) same,
+      ap (λ (o : Rule). o.parent) same,
+    )
 
 -- the rules of A and B at the two places make up the rule
 abbrev pub IsMadeOf : Automaton → Automaton → Both → PairRule → Type 0
 IsMadeOf A B y rule =
     IsRule A y.left rule.symbol (map (λ x. x.left) rule.kids) rule.parent.left × IsRule B y.right rule.symbol (map (λ x. x.right) rule.kids) rule.parent.right
 
-made_once : (A B : Automaton) → IsAutomaton A → IsAutomaton B → (x y : Both) (rule : PairRule) → IsMadeOf A B x rule → IsMadeOf A B y rule → x ≡ y
-made_once A B fitsA fitsB x y rule h k =
-    ap (λ z. both z x.right) (one_place A fitsA x.left y.left rule.symbol (map (λ z. z.left) rule.kids) rule.parent.left h.0 k.0)
-    ∙ ap (both y.left) (one_place B fitsB x.right y.right rule.symbol (map (λ z. z.right) rule.kids) rule.parent.right h.1 k.1)
+made_once : (A B : Automaton) → IsListed A → IsListed B → (x y : Both) (rule : PairRule) → IsMadeOf A B x rule → IsMadeOf A B y rule → x ≡ y
+made_once A B ours theirs x y rule h k =
+    ap (λ z. both z x.right) (one_place A ours x.left y.left rule.symbol (map (λ z. z.left) rule.kids) rule.parent.left h.0 k.0)
+    ∙ ap (both y.left) (one_place B theirs x.right y.right rule.symbol (map (λ z. z.right) rule.kids) rule.parent.right h.1 k.1)
 
-makes_one : (A B : Automaton) (o u : PairRule) (y : Both) → IsMadeOf A B y o → IsMadeOf A B y u → o ≡ u
-makes_one A B o u y h k =
-    let l = one_rule A y.left o.symbol u.symbol (map (λ x. x.left) o.kids) (map (λ x. x.left) u.kids) o.parent.left u.parent.left h.0 k.0 in
-    let r = one_rule B y.right o.symbol u.symbol (map (λ x. x.right) o.kids) (map (λ x. x.right) u.kids) o.parent.right u.parent.right h.1 k.1 in
+makes_one : (A B : Automaton) → IsNarrow A → IsNarrow B → (o u : PairRule) (y : Both) → IsMadeOf A B y o → IsMadeOf A B y u → o ≡ u
+makes_one A B ours theirs o u y h k =
+    let l = one_rule A ours y.left o.symbol u.symbol (map (λ x. x.left) o.kids) (map (λ x. x.left) u.kids) o.parent.left u.parent.left h.0 k.0 in
+    let r = one_rule B theirs y.right o.symbol u.symbol (map (λ x. x.right) o.kids) (map (λ x. x.right) u.kids) o.parent.right u.parent.right h.1 k.1 in
     let kids : o.kids ≡ u.kids =
     sym (pairs_again o.kids) ∙ ap (λ ps. pairs_of ps (map (λ x. x.right) o.kids)) l.1 ∙ ap (pairs_of (map (λ x. x.left) u.kids)) r.1 ∙ pairs_again u.kids in
     let parent : o.parent ≡ u.parent = ap (λ z. both z o.parent.right) l.2 ∙ ap (both u.parent.left) r.2 in
@@ -56,13 +62,13 @@ makes_one A B o u y h k =
     ∙ ap (λ z. record { symbol = u.symbol; kids = z; parent = o.parent }) kids
     ∙ ap (λ z. record { symbol = u.symbol; kids = u.kids; parent = z }) parent
 
-module _ (A B : Automaton) (S : List Symbol) (numbers : List ℕ) (fitsA : IsAutomaton A) (fitsB : IsAutomaton B) (joint : S ≡ joint_symbols A.symbols B.symbols)
+module _ (A B : Automaton) (S : List Symbol) (numbers : List ℕ) (ours : IsListed A) (theirs : IsListed B) (joint : S ≡ joint_symbols A.symbols B.symbols)
     (distinct : AllPairs ◌≢◌ S) (zip : AllZip (IsAt S) numbers B.symbols) where
   abbrev Theirs : List Rule
   Theirs = map (renumbered numbers) B.rules
 
   stands : StandFor S (HasRule A) (HasRule B) A.rules Theirs
-  stands = stand_for A B S numbers fitsA fitsB joint distinct zip
+  stands = stand_for A B S numbers ours theirs joint distinct zip
 
   pub more_states : (pairs : List Both) → HasTooMany A.rules Theirs pairs → HasMoreStates A B 1000000
   more_states pairs h = (pairs, h.distinct, λ x k. (together_exactly S (HasRule A) (HasRule B) A.rules Theirs stands x).0 (h.sound x k), h.many)
@@ -91,13 +97,13 @@ module _ (A B : Automaton) (S : List Symbol) (numbers : List ℕ) (fitsA : IsAut
 
     -- the rule that the rules at two places make up
     made : (y : Both) → Fits A.rules Theirs pairs y → (rule : PairRule) × IsMadeOf A B y rule × IsProductRule A B rule
-    unfolding IsRule IsLabel
+    unfolding IsRule
     made y h =
-        let a = (fits_at A fitsA y.left h.left h.left_at).symbol in
+        let a = (fits_at A ours.automaton y.left h.left h.left_at).symbol in
         let m = from_map (renumbered numbers) B.rules y.right h.right h.right_at in
-        let b = (fits_at B fitsB y.right m.0 m.1).symbol in
-        let here : IsAt S h.left.symbol a.0 = left_symbol A B S numbers fitsA fitsB joint distinct zip h.left.symbol a.0 a.1 in
-        let there : IsAt S (get_or numbers m.0.symbol 0) b.0 = right_symbol A B S numbers fitsA fitsB joint distinct zip m.0.symbol b.0 b.1 in
+        let b = (fits_at B theirs.automaton y.right m.0 m.1).symbol in
+        let here : IsAt S h.left.symbol a.0 = left_symbol A B S numbers ours theirs joint distinct zip h.left.symbol a.0 a.1 in
+        let there : IsAt S (get_or numbers m.0.symbol 0) b.0 = right_symbol A B S numbers ours theirs joint distinct zip m.0.symbol b.0 b.1 in
         let number : get_or numbers m.0.symbol 0 ≡ h.left.symbol = ap (λ (o : Rule). o.symbol) m.2 ∙ sym h.alike.symbol in
         let same : b.0 ≡ a.0 = at_unique S h.left.symbol b.0 a.0 (subst (λ k. IsAt S k b.0) number there) here in
         let ks = h.left.kids in
@@ -105,15 +111,15 @@ module _ (A B : Automaton) (S : List Symbol) (numbers : List ℕ) (fitsA : IsAut
         let kids : m.0.kids ≡ map (λ x. x.right) (pairs_of ks ls) = ap (λ (o : Rule). o.kids) m.2 ∙ sym (rights_of ks ls h.alike.kids) in
         let parent : m.0.parent ≡ h.right.parent = ap (λ (o : Rule). o.parent) m.2 in
         let rule : PairRule = record { symbol = a.0; kids = pairs_of ks ls; parent = both h.left.parent h.right.parent } in
-        let ours : IsRule A y.left a.0 (map (λ x. x.left) (pairs_of ks ls)) h.left.parent =
-        (h.left.symbol, a.1, subst (λ zs. IsAt A.rules y.left (record { symbol = h.left.symbol; kids = zs; parent = h.left.parent })) (sym (lefts_of ks ls h.alike.kids)) h.left_at) in
-        let theirs : IsRule B y.right a.0 (map (λ x. x.right) (pairs_of ks ls)) h.right.parent = (
+        let mine : IsRule A y.left a.0 (map (λ x. x.left) (pairs_of ks ls)) h.left.parent =
+        (h.left.symbol, label_at A h.left.symbol a.0 ours.narrow a.1, subst (λ zs. IsAt A.rules y.left (record { symbol = h.left.symbol; kids = zs; parent = h.left.parent })) (sym (lefts_of ks ls h.alike.kids)) h.left_at) in
+        let other : IsRule B y.right a.0 (map (λ x. x.right) (pairs_of ks ls)) h.right.parent = (
           m.0.symbol,
-          subst (IsAt B.symbols m.0.symbol) same b.1,
+          label_at B m.0.symbol a.0 theirs.narrow (subst (IsAt B.symbols m.0.symbol) same b.1),
           subst (λ z. IsAt B.rules y.right (record { symbol = m.0.symbol; kids = map (λ x. x.right) (pairs_of ks ls); parent = z })) parent
               (subst (λ zs. IsAt B.rules y.right (record { symbol = m.0.symbol; kids = zs; parent = m.0.parent })) kids m.1),
         ) in
-        (rule, (ours, theirs), record { left = (y.left, ours); right = (y.right, theirs); together = held_pair h.left h.right h.alike h.held })
+        (rule, (mine, other), record { left = (y.left, mine); right = (y.right, other); together = held_pair h.left h.right h.alike h.held })
 
     pub more_rules : AllPairs ◌≢◌ found → 2000000 < length found → HasMoreRules A B 2000000
     more_rules apart many =
@@ -121,7 +127,7 @@ module _ (A B : Automaton) (S : List Symbol) (numbers : List ℕ) (fitsA : IsAut
         let all = images M found (λ y h. let m = made y (c.fits y h) in (m.0, (m.1, m.2))) in
         let long = zip_length M found all.0 all.1 in (
           all.0,
-          images_apart M (λ x y rule h k. made_once A B fitsA fitsB x y rule h.0 k.0) found all.0 all.1 apart,
+          images_apart M (λ x y rule h k. made_once A B ours theirs x y rule h.0 k.0) found all.0 all.1 apart,
           λ rule h.
               let at = place_of all.0 rule h in
               (zip_at M found all.0 at.0 rule all.1 at.1).2.1,
@@ -135,15 +141,15 @@ module _ (A B : Automaton) (S : List Symbol) (numbers : List ℕ) (fitsA : IsAut
       found_in y (inr l) = absurd (omega arith)
 
       places : (rule : PairRule) → IsProductRule A B rule → (y : Both) × Contains found y × IsMadeOf A B y rule
-      unfolding IsRule IsLabel
+      unfolding IsRule
       places rule h =
           let r = h.left.0 in
           let s = h.right.0 in
           let left : Rule = record { symbol = h.left.1.0; kids = map (λ x. x.left) rule.kids; parent = rule.parent.left } in
           let line : Rule = record { symbol = h.right.1.0; kids = map (λ x. x.right) rule.kids; parent = rule.parent.right } in
           let sat : IsAt Theirs s (renumbered numbers line) = at_map (renumbered numbers) B.rules s line h.right.1.2 in
-          let here : IsAt S left.symbol rule.symbol = left_symbol A B S numbers fitsA fitsB joint distinct zip left.symbol rule.symbol h.left.1.1 in
-          let there : IsAt S (get_or numbers line.symbol 0) rule.symbol = right_symbol A B S numbers fitsA fitsB joint distinct zip line.symbol rule.symbol h.right.1.1 in
+          let here : IsAt S left.symbol rule.symbol = left_symbol A B S numbers ours theirs joint distinct zip left.symbol rule.symbol (at_label A left.symbol rule.symbol ours.narrow h.left.1.1) in
+          let there : IsAt S (get_or numbers line.symbol 0) rule.symbol = right_symbol A B S numbers ours theirs joint distinct zip line.symbol rule.symbol (at_label B line.symbol rule.symbol theirs.narrow h.right.1.1) in
           let alike : AreAlike left (renumbered numbers line) = record {
             symbol = at_distinct S left.symbol (get_or numbers line.symbol 0) rule.symbol distinct here there;
             kids = length-map rule.kids (λ x. x.left) ∙ sym (length-map rule.kids (λ x. x.right));
@@ -158,5 +164,5 @@ module _ (A B : Automaton) (S : List Symbol) (numbers : List ℕ) (fitsA : IsAut
 
       pub fewer_rules : HasMoreRules A B 2000000 → ⊥
       fewer_rules (rules, apart, product, many) =
-          let most = no_more (λ rule y. IsMadeOf A B y rule) (makes_one A B) rules found apart (λ rule h. places rule (product rule h)) in
+          let most = no_more (λ rule y. IsMadeOf A B y rule) (makes_one A B ours.narrow theirs.narrow) rules found apart (λ rule h. places rule (product rule h)) in
           omega (arith, most, few, many)

@@ -1,5 +1,5 @@
 -- The parts of a product make a well-formed automaton.
-use Rattle.std.proofs.Common.{◌≡◌, ◌≢◌, ℕ, ◌<◌, ◌≤◌, ◌^◌, List, [], ◌∷◌, ◌++◌, map, filter, length, get_or, Some, codes, refl, sym, ap, ◌∙◌, subst, arith, append_assoc}
+use Rattle.std.proofs.Common.{◌≡◌, ◌≢◌, inl, ℕ, ◌<◌, ◌≤◌, ◌^◌, List, [], ◌∷◌, ◌++◌, map, filter, length, get_or, Some, codes, refl, sym, ap, ◌∙◌, subst, arith, append_assoc}
 use Rattle.std.specs.Prelude.{All, Contains, AllPairs, decimal, not}
 use Rattle.std.specs.List.{AllZip, list_any}
 use Rattle.std.specs.Char.{digit_value}
@@ -122,7 +122,7 @@ module _ (A B : Automaton) (S : List Symbol) (theirs : List Rule) (pairs found Z
     (zip : AllZip (IsPairOf A.rules theirs Z) found rs) (names : All IsName (map pair_name Z)) (title : IsName (codes "isect"))
     (symbol_names : All (λ a. IsName a.name) S) (few_symbols : length S ≤ 65535) where
   abbrev P : Automaton
-  P = record { name = codes "isect"; symbols = S; states = map pair_name Z; finals = fs; rules = rs }
+  P = record { bits = 0; name = codes "isect"; symbols = S; states = map pair_name Z; finals = fs; rules = rs }
 
   alike : (y : Both) (rule : Rule) → Contains found y → (m : IsPairOf A.rules theirs Z y rule) → AreAlike m.left m.right
   alike y rule h m =
@@ -186,7 +186,9 @@ module _ (A B : Automaton) (S : List Symbol) (theirs : List Rule) (pairs found Z
       rules = apart_by_places rs same_rule;
       final_states = All-weaker (λ k. k < length Z) (IsState P) (λ k l. let e = length-map Z pair_name in omega (arith, l, e)) fs finals.below;
       fitting = λ i d l. fitting i (get_or rs i d) (slice_get-get_or rs i d l);
+      form = inl refl;
     };
+    narrow = refl;
     name = title;
     symbol_names = symbol_names;
     state_names = names;

@@ -5,6 +5,7 @@ use Rattle.tree_definitions.specs.Tree.{Symbol}
 use Rattle.tree_definitions.specs.Automaton.{Rule, Rules}
 use Rattle.tree_definitions.specs.Product.{Both}
 use Rattle.tree_definitions.specs.Relation.{Row, Has, IsAt}
+use Rattle.bool_ops.specs.Closing.{both, AreHeld}
 
 -- the rule with the number of its symbol
 abbrev pub renumbered : List ℕ → Rule → Rule
@@ -37,11 +38,13 @@ pub record AreFinals (states : List Both) (left right : Row) (n : ℕ) (finals :
   pub distinct : AllPairs ◌≢◌ finals
   pub members : (k : ℕ) → Contains finals k ↔ ((k < n) × ((x : Both) × IsAt states k x × Has left x.left × Has right x.right))
 
--- the places of two rules with as many children
-pub record FitTogether (ours theirs : List Rule) (y : Both) : Type 0 where
+-- the places of two rules with as many children, whose pairs of states are among these
+pub record FitTogether (ours theirs : List Rule) (states : List Both) (y : Both) : Type 0 where
   pub left : y.left < length ours
   pub right : y.right < length theirs
   pub kids : (p q : Rule) → IsAt ours y.left p → IsAt theirs y.right q → length p.kids ≡ length q.kids
+  pub held : (p q : Rule) → IsAt ours y.left p → IsAt theirs y.right q → AreHeld states p.kids q.kids
+  pub parent : (p q : Rule) → IsAt ours y.left p → IsAt theirs y.right q → Contains states (both p.parent q.parent)
 
 -- two lists of rules over one list of distinct symbols, with as many children as ranks, and the rules that they stand for
 pub record StandFor (symbols : List Symbol) (H G : Rules) (ours theirs : List Rule) : Type 0 where

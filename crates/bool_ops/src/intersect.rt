@@ -54,12 +54,10 @@ fn assemble(
     let finals = finals(alloc, &states, &left_finals, &right_finals)?;
     let rules = rules_of(alloc, left.rules(), theirs, &states, found)?;
     let names = names(alloc, &states)?;
-    let Ok(name) = Name::of(alloc, b"isect") else {
-        return Err(OpError::Memory);
-    };
-    let _bytes = name.bytes();
+    let name = Name::known(alloc, b"isect")?;
     let symbols = Vec::from_clones(alloc, alphabet.symbols())?;
     let product = Listed::new(name, symbols, names, finals, rules);
+    let _name = product.name();
     let canonical = product.canon()?;
     let _rules = canonical.rules();
     Ok(canonical)
@@ -80,9 +78,7 @@ fn product_of(alloc: Global, left: &Listed, right: &Listed) -> Result<Listed, Op
     ensures fewer_states { OnOk result (¬ HasMoreStates left.now right.now 1000000) }
     ensures fewer_rules { OnOk result (¬ HasMoreRules left.now right.now 2000000) }
 {
-    let Ok((alphabet, numbers)) = joined_symbols(alloc, left, right) else {
-        return Err(OpError::Memory);
-    };
+    let (alphabet, numbers) = joined_symbols(alloc, left, right)?;
     let theirs = renumber(alloc, right.rules(), &numbers)?;
     let by_child = rules_by_child(alloc, left.rules(), left.states().len())?;
     let by_place = ByPlace::new(alloc, &theirs)?;

@@ -5,6 +5,7 @@ ghost use Rattle.tree_definitions.specs.Product.{Both as BothSpec, Precedes, pai
 ghost use Rattle.std.specs.List.{AllZip};
 ghost use Rattle.tree_definitions.specs.Relation.{IsAt, Has};
 ghost use Rattle.tree_definitions.specs.Name.{IsName};
+ghost use Rattle.bool_ops.specs.Closing.{AreHeld};
 ghost use Rattle.bool_ops.specs.Joined.{AreFinals, FitTogether, IsPairOf, pairs_of};
 
 use crate::pairs::{Both, Pairs};
@@ -36,11 +37,7 @@ pub(crate) fn names(alloc: Global, states: &Pairs) -> Result<Vec<Name>, AllocErr
     let mut names = Vec::with_capacity(alloc, states.len())?;
     for x in states.list() {
         let text = format!(in alloc; "p{}_{}", x.left, x.right)?;
-        let Ok(name) = Name::of(alloc, text.as_bytes()) else {
-            return Err(AllocError);
-        };
-        let _bytes = name.bytes();
-        names.push(name)?;
+        names.push(Name::known(alloc, text.as_bytes())?)?;
     }
     Ok(names)
 }
@@ -83,9 +80,22 @@ pub(crate) fn finals(
     Ok(finals)
 }
 
+/// The place of a pair that is there.
+fn place_of(states: &Pairs, x: Both) -> u32
+    requires there { Contains states.now x }
+    requires few { length states.now < 2 ^ 32 }
+    ensures { IsAt states.now result x }
+{
+    match states.find(x) {
+        Some(place) => place as u32,
+        None => unreachable!(),
+    }
+}
+
 /// The places of the pairs of children.
 fn places(alloc: Global, states: &Pairs, left: &[u32], right: &[u32]) -> Result<Kids, AllocError>
     requires lengths { length left.now ≡ length right.now }
+    requires held { AreHeld states.now left.now right.now }
     requires few { length states.now < 2 ^ 32 }
     ensures { IfOk result (λ v. AllZip (IsAt states.now) v.items (pairs_of left.now right.now)) }
 {
@@ -95,10 +105,7 @@ fn places(alloc: Global, states: &Pairs, left: &[u32], right: &[u32]) -> Result<
             left: *p,
             right: right[i],
         };
-        let Some(place) = states.find(x) else {
-            return Err(AllocError);
-        };
-        places.push(place as u32)?;
+        places.push(place_of(states, x))?;
     }
     Ok(places)
 }
@@ -112,7 +119,7 @@ pub(crate) fn rules_of(
     found: &Pairs,
 ) -> Result<Vec<Rule>, AllocError>
     requires few { length states.now < 2 ^ 32 }
-    requires fits { All (λ y. FitTogether ours.now theirs.now y) found.now }
+    requires fits { All (FitTogether ours.now theirs.now states.now) found.now }
     ensures { IfOk result (λ v. AllZip (IsPairOf ours.now theirs.now states.now) found.now v.items) }
 {
     let mut rules = Vec::with_capacity(alloc, found.len())?;
@@ -124,15 +131,12 @@ pub(crate) fn rules_of(
             left: left.parent,
             right: right.parent,
         };
-        let Some(parent) = states.find(parents) else {
-            return Err(AllocError);
-        };
-        let rule = Rule {
+        let parent = place_of(states, parents);
+        rules.push(Rule {
             symbol: left.symbol,
             kids,
-            parent: parent as u32,
-        };
-        rules.push(rule)?;
+            parent,
+        })?;
     }
     Ok(rules)
 }

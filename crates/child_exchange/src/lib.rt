@@ -2,8 +2,6 @@
 #![tactic(auto)]
 
 mod rules;
-#[cfg(test)]
-mod tests;
 mod tuples;
 
 pub use rules::exchanged;

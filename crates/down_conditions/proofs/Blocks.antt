@@ -1,44 +1,36 @@
 -- Downward simulations of two automata together, from those between each two of them.
-use Rattle.std.proofs.Common.{◌≡◌, inl, inr, ℕ, ◌<◌, ◌≤◌, ◌+◌, ◌-◌, List, length, map, Option, Some, None, refl, sym, ap, subst, arith, ⊎_elim}
+use Rattle.std.proofs.Common.{◌≡◌, inl, inr, ℕ, ◌<◌, ◌≤◌, ◌+◌, ◌-◌, List, length, map, Option, Some, None, refl, sym, subst, arith, ⊎_elim}
 use Rattle.std.specs.List.{AllZip}
 use Rattle.std.specs.Prelude.{Contains, IfNone, IfSome}
 use Rattle.std.proofs.lemmas.Bool.{cases_lt}
-use Rattle.std.proofs.lemmas.List.Elements.{All-contains}
 use Rattle.tree_definitions.specs.Tree.{Symbol}
-use Rattle.tree_definitions.specs.Automaton.{Automaton, Rule, IsLabel, IsRule, HasRule, IsAutomaton, FitsRule}
+use Rattle.tree_definitions.specs.Automaton.{Automaton, Rule, IsLabel, IsNarrow, HasRule, IsAutomaton}
 use Rattle.tree_definitions.specs.Joint.{JointRule, right}
 use Rattle.tree_definitions.specs.Relation.{Relation, IsAt}
 use Rattle.tree_definitions.specs.Simulation.{IsDown}
-use Rattle.tree_definitions.proofs.Listing.{label_at, rule_of_line}
+use Rattle.tree_definitions.proofs.Listing.{at_label, label_at, parent_state, rule_of_line, rule_parts}
 use Rattle.tree_definitions.proofs.Members.{contains_at}
-use Rattle.down_conditions.specs.Between.{IsDownBetween, IsRuleDown, IsAnswered}
-use Rattle.down_conditions.proofs.Others.{at_distinct}
+use Rattle.tree_definitions.proofs.Standing.{label_once}
+use Rattle.down_conditions.specs.Between.{IsAnswered, IsDownBetween, IsRuleDown, IsSought}
 use Rattle.down_conditions.proofs.Zips.{zip_mapped, zip_unmapped, map_same}
 
-pub label_once : (A : Automaton) → IsAutomaton A → (j k : ℕ) (a : Symbol) → IsLabel A j a → IsLabel A k a → j ≡ k
-unfolding IsLabel
-label_once A fits j k a jat kat = at_distinct A.symbols j k a fits.symbols jat kat
-
-pub parent_within : (A : Automaton) → IsAutomaton A → (a : Symbol) (kids : List ℕ) (q : ℕ) → HasRule A a kids q → q < length A.states
-unfolding IsRule
-parent_within A fits a kids q h =
-    (All-contains (FitsRule A) A.rules (record { symbol = h.1.0; kids = kids; parent = q }) fits.fitting (contains_at A.rules h.0 _ h.1.2)).parent
-
 -- a line answers with a rule, and a rule is a line
-module _ (H : Automaton) (fits : IsAutomaton H) (R : Relation) (l h : ℕ) (a : Symbol) (rule : Rule) (r : ℕ) where
-  pub rule_answers : (symbol : Option ℕ) → ((k : ℕ) → symbol ≡ Some k → IsAt H.symbols k a) → IsAnswered H R l h symbol rule r
-      → (above : List ℕ) × HasRule H a above r × AllZip (λ x y. R (l + x) (h + y)) rule.kids above
-  rule_answers symbol found (j, over, at, e, p, z) =
-      let has : HasRule H a over.kids over.parent = (j, rule_of_line H j over a at (label_at H over.symbol a (found over.symbol e))) in
-      (over.kids, subst (HasRule H a over.kids) p has, z)
+module _ (H : Automaton) (R : Relation) (l h : ℕ) (a : Symbol) (k : ℕ) (label : IsLabel H k a) (kids : List ℕ) (r : ℕ) where
+  -- a line to r with the number k has children above these
+  abbrev pub LineAnswers : Type 0
+  LineAnswers = (j : ℕ) × (line : Rule) × IsAt H.rules j line × (line.symbol ≡ k) × (line.parent ≡ r) × AllZip (λ x y. R (l + x) (h + y)) kids line.kids
 
-  pub answers_rule : (symbol : Option ℕ) → ((k : ℕ) → symbol ≡ Some k → IsAt H.symbols k a) → (symbol ≡ None → ¬ Contains H.symbols a)
-      → (above : List ℕ) × HasRule H a above r × AllZip (λ x y. R (l + x) (h + y)) rule.kids above → IsAnswered H R l h symbol rule r
-  unfolding IsRule IsLabel
-  answers_rule None found none (above, (j, (k, label, at)), z) = absurd (none refl (contains_at H.symbols k a label))
-  answers_rule (Some n) found none (above, (j, (k, label, at)), z) =
-      let same : n ≡ k = at_distinct H.symbols n k a fits.symbols (found n refl) label in
-      (j, record { symbol = k; kids = above; parent = r }, at, ap Some same, refl, z)
+  pub rule_answers : LineAnswers → IsAnswered H R l h a kids r
+  rule_answers (j, line, at, e, p, z) = (line.kids, subst (HasRule H a line.kids) p (j, rule_of_line H j line a at (subst (λ i. IsLabel H i a) (sym e) label)), z)
+
+  pub line_answers : IsAutomaton H → IsNarrow H → IsAnswered H R l h a kids r → LineAnswers
+  line_answers fits narrow (above, (j, rule), z) =
+      let parts = rule_parts H j a above r rule in
+      (j, record { symbol = parts.0; kids = above; parent = r }, parts.2, label_once H fits narrow parts.0 k a parts.1 label, refl, z)
+
+-- without a number no rule answers
+pub none_answers : (H : Automaton) (R : Relation) (l h : ℕ) (a : Symbol) (kids : List ℕ) (r : ℕ) → ((k : ℕ) → ¬ IsLabel H k a) → ¬ IsAnswered H R l h a kids r
+none_answers H R l h a kids r none (above, (j, rule), z) = let parts = rule_parts H j a above r rule in none parts.0 parts.1
 
 -- a number that stands no places further on stands where it did
 nought : (x : ℕ) → 0 + x ≡ x
@@ -93,7 +85,7 @@ module _ (A B : Automaton) (fits : IsAutomaton A) (R : Relation) where
   at_left a above r l (inr (ks, s, ek, eq, rule)) = absurd (omega (arith, l, eq))
 
   at_right : (a : Symbol) (above : List ℕ) (s : ℕ) → JointRule A B a above (right A s) → (ks : List ℕ) × (above ≡ map (right A) ks) × HasRule B a ks s
-  at_right a above s (inl rule) = let l = parent_within A fits a above (right A s) rule in absurd (omega (arith, l))
+  at_right a above s (inl rule) = let l = parent_state A fits a above (right A s) rule in absurd (omega (arith, l))
   at_right a above s (inr (ks, t, ek, eq, rule)) = let e : t ≡ s = omega (arith, eq) in (ks, ek, subst (HasRule B a ks) e rule)
 
   module _ (down : IsDown (JointRule A B) R) where
@@ -120,19 +112,17 @@ module _ (A B : Automaton) (fits : IsAutomaton A) (R : Relation) where
         (t.0, t.2, zip_unmapped R (right A) (right A) kids t.0 (subst (AllZip R (map (right A) kids)) t.1 k.2))
 
 -- what a search for a symbol gives
-pub found_at : (list symbols : List Symbol) (a : Symbol) (o : Option ℕ) → list ≡ symbols → IfSome o (λ i. IsAt list i a) → (k : ℕ) → o ≡ Some k → IsAt symbols k a
-found_at list symbols a None e h k f = absurd cc
-found_at list symbols a (Some n) e h k f = let same : n ≡ k = cc in subst (λ xs. IsAt xs k a) e (subst (λ i. IsAt list i a) same h)
-
-pub found_none : (list symbols : List Symbol) (a : Symbol) (o : Option ℕ) → list ≡ symbols → IfNone o (Contains list a → ⊥) → o ≡ None → ¬ Contains symbols a
-found_none list symbols a None e h f m = h (subst (λ (xs : List Symbol). Contains xs a) (sym e) m)
-found_none list symbols a (Some n) e h f m = absurd cc
+pub sought : (H : Automaton) → IsNarrow H → (list : List Symbol) (a : Symbol) (o : Option ℕ) → list ≡ H.symbols
+    → IfSome o (λ i. IsAt list i a) → IfNone o (Contains list a → ⊥) → IsSought H a o
+sought H narrow list a None e found none = λ k label. none (subst (λ (xs : List Symbol). Contains xs a) (sym e) (contains_at H.symbols k a (at_label H k a narrow label)))
+sought H narrow list a (Some k) e found none = label_at H k a narrow (subst (λ (xs : List Symbol). IsAt xs k a) e found)
 
 -- rule by rule, and line by line
 module _ (L H : Automaton) (R : Relation) (l h : ℕ) where
   pub between_from_lines : ((i : ℕ) (rule : Rule) → IsAt L.rules i rule → IsRuleDown L H R l h rule) → IsDownBetween L H R l h
-  unfolding IsRule IsLabel
-  between_from_lines each a kids q (i, (k, label, at)) = each i (record { symbol = k; kids = kids; parent = q }) at a label
+  between_from_lines each a kids q (i, rule) =
+      let parts = rule_parts L i a kids q rule in
+      each i (record { symbol = parts.0; kids = kids; parent = q }) parts.2 a parts.1
 
   pub line_from_between : IsDownBetween L H R l h → (i : ℕ) (rule : Rule) → IsAt L.rules i rule → IsRuleDown L H R l h rule
-  line_from_between down i rule at a aat = down a rule.kids rule.parent (i, rule_of_line L i rule a at (label_at L rule.symbol a aat))
+  line_from_between down i rule at a label = down a rule.kids rule.parent (i, rule_of_line L i rule a at label)

@@ -4,7 +4,6 @@ pub mod Downed
 pub mod Bounded
 pub mod Filed
 pub mod Marks
-pub mod Others
 pub mod Pushed
 pub mod Sets
 pub mod Shifting

@@ -1,15 +1,13 @@
 -- Covering at joint places, and covering of a pair's own state and set.
 use Rattle.std.proofs.Common.{◌≢◌, inl, inr, ℕ, List, length, refl, sym, subst, arith}
-use Rattle.std.specs.Prelude.{AllPairs}
 use Rattle.std.proofs.lemmas.Option.{slice_get_within}
 use Rattle.tree_definitions.specs.Automaton.{Automaton}
 use Rattle.tree_definitions.specs.Cover.{Pair}
 use Rattle.tree_definitions.specs.DownCert.{CoversDown, IsCoveredDown}
 use Rattle.tree_definitions.specs.Joint.{right}
 use Rattle.tree_definitions.specs.Relation.{Relation, Places, Has, IsAt, Below}
-use Rattle.tree_definitions.proofs.Members.{at_unique, at_within, contains_at, place_of}
+use Rattle.tree_definitions.proofs.Members.{at_within, contains_at, place_of}
 use Rattle.down_conditions.specs.Covering.{AreShifted, IsCovered, IsCoveredElsewhere, IsHeld, Shifted}
-use Rattle.down_conditions.proofs.Others.{at_distinct}
 
 module _ (A : Automaton) (R : Relation) (pairs wides : List Pair) (are : AreShifted (length A.states) pairs wides) (P Q : Places) where
   narrow : ((s : ℕ) → Q s → Shifted (length A.states) P s) → (k : ℕ) (pair wide : Pair) → IsAt pairs k pair → IsAt wides k wide
@@ -69,22 +67,16 @@ module _ (A : Automaton) (R : Relation) (pairs wides : List Pair) (are : AreShif
         inr (covers_wide to (length wides) q k.0 by_pair.0 (λ f. omega (arith, w, e, f)) k.1 by_pair.2)
   ]
 
-module _ (A : Automaton) (R : Relation) (pairs wides : List Pair) (are : AreShifted (length A.states) pairs wides) (distinct : AllPairs ◌≢◌ pairs)
+module _ (A : Automaton) (R : Relation) (pairs wides : List Pair) (are : AreShifted (length A.states) pairs wides)
     (i : ℕ) (x wide : Pair) (at : IsAt pairs i x) (wat : IsAt wides i wide) where
-  pub other_by_place : IsCoveredElsewhere R wides i wide.state (Has wide.set) → IsCovered A R pairs x
+  pub other_by_place : IsCoveredElsewhere R wides i wide.state (Has wide.set) → IsCovered A R pairs i x
   other_by_place h =
       let shift = are.each i x wide at wat in
-      let k = covers_narrow A R pairs wides are (Has x.set) (Has wide.set) (λ s. (shift.set s).0) i wide.state h in (
-        k.1,
-        contains_at pairs k.0 k.1 k.3,
-        (λ e. k.2 (at_distinct pairs k.0 i x distinct (subst (IsAt pairs k.0) e k.3) at)),
-        subst (λ q. CoversDown A R k.1 q (Has x.set)) shift.state k.4,
-      )
+      let k = covers_narrow A R pairs wides are (Has x.set) (Has wide.set) (λ s. (shift.set s).0) i wide.state h in
+      (k.0, k.1, k.2, k.3, subst (λ q. CoversDown A R k.1 q (Has x.set)) shift.state k.4)
 
-  pub place_of_other : IsCovered A R pairs x → IsCoveredElsewhere R wides i wide.state (Has wide.set)
+  pub place_of_other : IsCovered A R pairs i x → IsCoveredElsewhere R wides i wide.state (Has wide.set)
   place_of_other h =
       let shift = are.each i x wide at wat in
-      let k = place_of pairs h.0 h.1 in
-      covers_wide A R pairs wides are (Has x.set) (Has wide.set) (λ s. (shift.set s).1) i wide.state k.0 h.0
-      (λ e. h.2 (at_unique pairs i h.0 x (subst (λ j. IsAt pairs j h.0) e k.1) at)) k.1
-      (subst (λ q. CoversDown A R h.0 q (Has x.set)) (sym shift.state) h.3)
+      covers_wide A R pairs wides are (Has x.set) (Has wide.set) (λ s. (shift.set s).1) i wide.state h.0 h.1 h.2 h.3
+      (subst (λ q. CoversDown A R h.1 q (Has x.set)) (sym shift.state) h.4)

@@ -5,9 +5,13 @@ use Rattle.tree_definitions.specs.Relation.{Relation, Places, Has, IsAt, Below}
 use Rattle.tree_definitions.specs.Cover.{Pair}
 use Rattle.tree_definitions.specs.DownCert.{CoversDown}
 
--- another listed pair covers the pair
-abbrev pub IsCovered : Automaton → Relation → List Pair → Pair → Type 0
-IsCovered A R pairs x = (y : Pair) × Contains pairs y × (y ≢ x) × CoversDown A R y x.state (Has x.set)
+-- the pair at another place than i covers the pair x
+abbrev pub IsCovered : Automaton → Relation → List Pair → ℕ → Pair → Type 0
+IsCovered A R pairs i x = (j : ℕ) × (y : Pair) × (j ≢ i) × IsAt pairs j y × CoversDown A R y x.state (Has x.set)
+
+-- no pair covers one at another place
+abbrev pub AreApart : Automaton → Relation → List Pair → Type 0
+AreApart A R pairs = (i j : ℕ) (x y : Pair) → i ≢ j → IsAt pairs i x → IsAt pairs j y → ¬ CoversDown A R x y.state (Has y.set)
 
 -- the members of P, m places further on
 abbrev pub Shifted : ℕ → Places → Places

@@ -1,11 +1,14 @@
 //! Whether a relation is a downward simulation from one automaton to another.
 
-ghost use Rattle.std.specs.Prelude.{◌≡◌, ◌<◌, ◌≤◌, ◌+◌, ◌↔◌, ℕ, List, All, IsTrue, IfOk, Some, length};
+ghost use Rattle.std.specs.Prelude.{◌≡◌, ◌<◌, ◌≤◌, ◌+◌, ◌↔◌, ℕ, List, All, IsTrue, IfOk, length};
 ghost use Rattle.std.specs.List.{AllZip};
+ghost use Rattle.tree_definitions.specs.Tree.{Symbol};
+ghost use Rattle.tree_definitions.specs.Automaton.{IsLabel};
 ghost use Rattle.tree_definitions.specs.Relation.{Holds, IsAt};
 ghost use Rattle.trim_ops.specs.Marking.{IsByParent, IsWithin};
-ghost use Rattle.down_conditions.specs.Between.{IsAnswered, IsAnsweredAll, IsDownBetween, IsRuleDown};
+ghost use Rattle.down_conditions.specs.Between.{IsAnswered, IsDownBetween, IsRuleDown, IsSought, IsStateDown};
 
+use crate::downs::alphabet_of;
 use bit_matrix::Matrix;
 use ranked_alphabet::Alphabet;
 use std::alloc::{AllocError, Global};
@@ -47,10 +50,11 @@ fn answered(
     requires rule { All (λ q. l + q < length both.now) rule.now.kids }
     requires list { All (λ s. s < length high.now.rules) list.now }
     ensures { (r : ℕ) (lists : List (List ℕ)) → IsByParent high.now.rules lists → IsAt lists r list.now
-        → IsTrue result ↔ IsAnswered high.now (Holds both.now) l h (Some symbol) rule.now r }
+        → (a : Symbol) → IsLabel high.now symbol a → IsTrue result ↔ IsAnswered high.now (Holds both.now) l h a rule.now.kids r }
 {
+    let rules = high.rules();
     for s in list {
-        let over = &high.rules()[*s as usize];
+        let over = &rules[*s as usize];
         if over.symbol == symbol
             && kids_below(rule.kids.as_slice(), l, over.kids.as_slice(), h, both)
         {
@@ -75,7 +79,7 @@ fn has_answer(
     requires rule { All (λ q. l + q < length both.now) rule.now.kids }
     requires by_parent { IsByParent high.now.rules by_parent.now }
     requires state { r < length by_parent.now }
-    ensures { IsTrue result ↔ IsAnswered high.now (Holds both.now) l h symbol rule.now r }
+    ensures { (a : Symbol) → IsSought high.now a symbol → IsTrue result ↔ IsAnswered high.now (Holds both.now) l h a rule.now.kids r }
 {
     match symbol {
         Some(k) => answered(high, by_parent.at(r), k, rule, l, h, both),
@@ -98,7 +102,7 @@ fn answered_all(
     requires parent { l + rule.now.parent < length both.now }
     requires by_parent { IsByParent high.now.rules by_parent.now }
     requires size { length by_parent.now ≡ length high.now.states }
-    ensures { IsTrue result ↔ IsAnsweredAll high.now (Holds both.now) l h symbol rule.now }
+    ensures { (a : Symbol) → IsSought high.now a symbol → IsTrue result ↔ IsStateDown high.now (Holds both.now) l h a rule.now.kids rule.now.parent }
 {
     let _places = both.size();
     let end = h + high.states().len();
@@ -136,7 +140,7 @@ fn rule_is_down(
     requires parent { l + rule.now.parent < length both.now }
     ensures { IsTrue result ↔ IsRuleDown low.now high.now (Holds both.now) l h rule.now }
 {
-    // The call tells the proof that the automaton's symbols are distinct.
+    // The call tells the proof that the automaton is narrow.
     let _symbols = high.symbols();
     let symbol = alphabet.find(&low.symbols()[rule.symbol as usize]);
     answered_all(high, by_parent, symbol, rule, l, h, both)
@@ -182,9 +186,7 @@ pub(crate) fn is_down_between(
     requires high { h + length high.now.states ≤ length both.now }
     ensures { IfOk result (λ yes. IsTrue yes ↔ IsDownBetween low.now high.now (Holds both.now) l h) }
 {
-    let Ok(alphabet) = Alphabet::of(alloc, high.symbols()) else {
-        return Err(AllocError);
-    };
+    let alphabet = alphabet_of(alloc, high)?;
     let by_parent = rules_by_parent(alloc, high.rules(), high.states().len())?;
     Ok(rules_are_down(low, high, &alphabet, &by_parent, l, h, both))
 }

@@ -12,7 +12,7 @@ ghost use Rattle.listed_pairs.specs.Places.{IsFirst, IsNth};
 ghost use Rattle.listed_pairs.specs.Within.{AreWithin};
 
 use crate::by_state::{is_held, pairs_by_state};
-use crate::downs::{downs, rules_by_symbol};
+use crate::downs::{alphabet_of, downs, rules_by_symbol};
 use crate::order::forced_first;
 use crate::search::can_miss;
 use crate::shift::shifted_pairs;
@@ -230,9 +230,7 @@ pub fn first_refuted(
     ensures none { IfOk result (λ first. IfNone first ((pair : Pair) → Contains pairs.now pair → IsSplitCovered a.now b.now (Holds both.now) pairs.now pair)) }
     ensures some { IfOk result (λ first. IfSome first (IsFirst (IsNth pairs.now (IsRefuted a.now b.now (Holds both.now) pairs.now)))) }
 {
-    let Ok(alphabet) = Alphabet::of(alloc, b.symbols()) else {
-        return Err(AllocError);
-    };
+    let alphabet = alphabet_of(alloc, b)?;
     let m = a.states().len();
     let n = both.size();
     let by_symbol = rules_by_symbol(alloc, b.rules(), b.symbols().len())?;

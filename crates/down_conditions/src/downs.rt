@@ -6,10 +6,21 @@ ghost use Rattle.down_conditions.specs.Filing.{AreBySymbol};
 ghost use Rattle.down_conditions.specs.Refuting.{AreDowns, IsChosen};
 
 use bit_rows::Row;
-use ranked_alphabet::Alphabet;
+use ranked_alphabet::{Alphabet, AlphabetError};
 use std::alloc::{AllocError, Global};
 use ta_model::{Listed, Rule, Symbol};
 use trim_ops::RuleIndex;
+
+/// The symbols of the automaton, to be looked up.
+pub fn alphabet_of(alloc: Global, b: &Listed) -> Result<Alphabet, AllocError>
+    ensures { IfOk result (λ alphabet. alphabet ≡ b.now.symbols) }
+{
+    match Alphabet::of(alloc, b.symbols()) {
+        Ok(alphabet) => Ok(alphabet),
+        Err(AlphabetError::Memory) => Err(AllocError),
+        Err(AlphabetError::Full) => unreachable!(),
+    }
+}
 
 /// For each symbol, given by its place, the places of the rules with it.
 pub fn rules_by_symbol(
@@ -70,10 +81,10 @@ pub fn downs(
     ensures within { IfOk result (λ v. All (λ r. r < length b.now.rules) v.items) }
     ensures downs { IfOk result (λ v. AreDowns b.now symbol.now set.now v.items) }
 {
+    // The call tells the proof that the automaton is narrow.
+    let _symbols = b.symbols();
     let Some(k) = alphabet.find(symbol) else {
         return Ok(Vec::new(alloc));
     };
-    // The call tells the proof that the automaton's symbols are distinct.
-    let _symbols = b.symbols();
     rules_to(alloc, b, by_symbol.at(k as usize), set)
 }

@@ -8,7 +8,7 @@ use Rattle.std.proofs.lemmas.List.Folds.{list_any_at}
 use Rattle.std.specs.Prelude.{Contains}
 use Rattle.std.specs.Global.{Vec}
 use Rattle.std.proofs.lemmas.Option.{slice_get_within}
-use Rattle.tree_definitions.specs.Automaton.{Automaton, IsRule}
+use Rattle.tree_definitions.specs.Automaton.{Automaton, IsNarrow, IsRule}
 use Rattle.tree_definitions.specs.Cover.{Pair}
 use Rattle.tree_definitions.specs.DownTrail.{DownEntry, Root, Child, Split, SentBy, AreAlike, IsPairOf}
 use Rattle.tree_definitions.specs.Relation.{AreEqual, Places, Has, IsAt}
@@ -16,7 +16,7 @@ use Rattle.tree_definitions.proofs.Members.{at_within, contains_head, contains_t
 use Rattle.listed_pairs.specs.DownEntries.{FitDownEntries}
 use Rattle.down_trails.specs.Keys.{AreMembers, IsKeyOf, IsPairKey, IsSplitKey, parts_of}
 use Rattle.down_trails.proofs.Rising.{rising_same}
-use Rattle.down_trails.proofs.Splitting.{fits_pair, kids_same, pairs_same, rule_once, same_row, tuples_same}
+use Rattle.down_trails.proofs.Splitting.{fits_pair, kids_once, kids_same, pairs_same, same_row, tuples_same}
 
 -- sets with the same members have the same list of them
 pub members_once : (P Q : Places) (xs ys : List ℕ) → AreMembers P xs → AreMembers Q ys → AreEqual P Q → xs ≡ ys
@@ -36,7 +36,7 @@ same_list [] (y ∷ ys) e h = absurd (omega (arith, e))
 same_list (x ∷ xs) [] e h = absurd (omega (arith, e))
 same_list (x ∷ xs) (y ∷ ys) e h = ap (λ z. z ∷ xs) (h 0 x y refl refl) ∙ ap (λ l. y ∷ l) (same_list xs ys (omega (arith, e)) (λ i. h (suc i)))
 
-module _ (A B : Automaton) (entries : List DownEntry) (fits : FitDownEntries A B entries) where
+module _ (A B : Automaton) (narrow : IsNarrow A) (entries : List DownEntry) (fits : FitDownEntries A B entries) where
   pair_alike : (p q : Pair) (k l : List (List ℕ)) → length p.set ≡ length q.set → IsPairKey p k → IsPairKey q l → k ≡ l → p ≡ q
   pair_alike p q k l long h g e =
       let whole : (p.state ∷ []) ∷ h.members ∷ [] ≡ (q.state ∷ []) ∷ g.members ∷ [] = sym h.key_is ∙ e ∙ g.key_is in
@@ -80,11 +80,11 @@ module _ (A B : Automaton) (entries : List DownEntry) (fits : FitDownEntries A B
       let yours = pairs_same A B entries e' r' g.of of' in
       let pair : h.of.pair ≡ g.of.pair = mine ∙ pairs ∙ sym yours in
       let ms : h.members ≡ g.members = members_once (Has h.of.pair.set) (Has g.of.pair.set) h.members g.members h.set g.set (λ s. (λ m. subst (λ (x : Pair). Has x.set s) pair m, λ m. subst (λ (x : Pair). Has x.set s) (sym pair) m)) in
-      let tuples = tuples_same A B entries e r h.of of in
-      let tuples' = tuples_same A B entries e' r' g.of of' in
+      let tuples = tuples_same A B entries e r h.of of narrow in
+      let tuples' = tuples_same A B entries e' r' g.of of' narrow in
       let kids : length h.of.kids ≡ length of.kids = ap (λ (ks : List ℕ). length ks) (kids_same A B entries e r h.of of) in
-      let one_rule : of.kids ≡ of'.kids = (rule_once A r of.symbol of'.symbol of.kids of'.kids of.pair.state of'.pair.state of.rule
-      (subst (λ z. IsRule A z of'.symbol of'.kids of'.pair.state) (sym rules) of'.rule)).1 in
+      let one_rule : of.kids ≡ of'.kids = kids_once A r of.symbol of'.symbol of.kids of'.kids of.pair.state of'.pair.state of.rule
+      (subst (λ z. IsRule A z of'.symbol of'.kids of'.pair.state) (sym rules) of'.rule) in
       let kids' : length of'.kids ≡ length g.of.kids = sym (ap (λ (ks : List ℕ). length ks) (kids_same A B entries e' r' g.of of')) in
       let long : length h.sets ≡ length g.sets = h.count ∙ kids ∙ ap (λ (ks : List ℕ). length ks) one_rule ∙ kids' ∙ sym g.count in
       let sets : h.sets ≡ g.sets = same_list h.sets g.sets long (λ place x y xat yat.

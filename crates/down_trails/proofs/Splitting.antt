@@ -1,19 +1,20 @@
 -- What a split speaks of, once.
 use Rattle.std.proofs.Common.{◌≡◌, ◌↔◌, ℕ, suc, ◌<◌, List, [], ◌∷◌, Bool, true, false, Some, length, get_or, map, refl, sym, ap, subst, ◌∙◌, arith}
-use Rattle.std.specs.Prelude.{option_map, Result, Ok, Err, IfOk}
+use Rattle.std.specs.Prelude.{option_map, Result, Ok, Err, IfOk, All}
 use Rattle.std.proofs.lemmas.Option.{slice_get-map, slice_get_read, slice_get_within}
 use Rattle.std.proofs.lemmas.List.Elements.{All-contains, Contains-get_or}
 use Rattle.tree_definitions.specs.Tree.{Symbol}
-use Rattle.tree_definitions.specs.Automaton.{Automaton, Rule, IsRule, IsLabel, IsAutomaton, IsState, FitsRule}
+use Rattle.tree_definitions.specs.Automaton.{Automaton, Rule, IsRule, IsLabel, IsNarrow, IsAutomaton, IsState, FitsRule}
 use Rattle.tree_definitions.specs.Cover.{Pair, FitsPair}
 use Rattle.tree_definitions.specs.DownTrail.{DownEntry, Root, Child, Split, SplitOf, IsPairOf, HasPair, ListsDowns, Precedes, SentBy}
 use Rattle.tree_definitions.specs.Relation.{Row, Has, IsAt}
 use Rattle.tree_definitions.proofs.Members.{at_unique, contains_at}
-use Rattle.tree_definitions.proofs.Listing.{kid_states, label_at, line_of, rule_of_line}
+use Rattle.tree_definitions.proofs.Listing.{at_label, kid_states, line_of, rule_of_line, rule_parts}
 use Rattle.listed_pairs.specs.DownEntries.{FitDownEntries, entries_of, entry_of}
 use Rattle.listed_pairs.specs.declared.entry.DownEntry.{DownEntry as Listed}
 use Rattle.std.proofs.lemmas.List.{length-map}
 use Rattle.smallvec.specs.SmallVec.{SmallVec}
+use Rattle.ta_model.specs.Listing.{IsListed}
 use Rattle.ta_model.specs.Tuples.{kids_of}
 use Rattle.down_trails.specs.Entries.{AreOfStates, IsDivided, SplitsInto}
 use Rattle.down_trails.proofs.Rising.{precedes_once, rising_same}
@@ -31,12 +32,21 @@ has_pair_once entries e p q h k =
     let same : h.0 ≡ k.0 = at_unique entries e h.0 k.0 h.1 k.1 in
     pair_once k.0 p q (subst (λ (x : DownEntry). IsPairOf x p) same h.2) k.2
 
-pub rule_once : (A : Automaton) (r : ℕ) (a b : Symbol) (xs ys : List ℕ) (p q : ℕ) → IsRule A r a xs p → IsRule A r b ys q → (a ≡ b) × (xs ≡ ys)
-unfolding IsRule IsLabel
-rule_once A r a b xs ys p q h k =
-    let same : record { symbol = h.0; kids = xs; parent = p } ≡ record { symbol = k.0; kids = ys; parent = q } = at_unique A.rules r (record { symbol = h.0; kids = xs; parent = p }) (record { symbol = k.0; kids = ys; parent = q }) h.2 k.2 in
-    let places : h.0 ≡ k.0 = ap (λ (x : Rule). x.symbol) same in
-    (at_unique A.symbols k.0 a b (subst (λ n. IsAt A.symbols n a) places h.1) k.1, ap (λ (x : Rule). x.kids) same)
+-- a line has one list of children, and in a narrow automaton one symbol
+pub kids_once : (A : Automaton) (r : ℕ) (a b : Symbol) (xs ys : List ℕ) (p q : ℕ) → IsRule A r a xs p → IsRule A r b ys q → xs ≡ ys
+kids_once A r a b xs ys p q h k =
+    let one = line_of A r a xs p h in
+    let other = line_of A r b ys q k in
+    sym one.2 ∙ ap (λ (x : Rule). x.kids) (at_unique A.rules r one.0 other.0 one.1 other.1) ∙ other.2
+
+pub symbol_once : (A : Automaton) → IsNarrow A → (r : ℕ) (a b : Symbol) (xs ys : List ℕ) (p q : ℕ) → IsRule A r a xs p → IsRule A r b ys q → a ≡ b
+symbol_once A narrow r a b xs ys p q h k =
+    let one = rule_parts A r a xs p h in
+    let other = rule_parts A r b ys q k in
+    let x : Rule = record { symbol = one.0; kids = xs; parent = p } in
+    let y : Rule = record { symbol = other.0; kids = ys; parent = q } in
+    let places : one.0 ≡ other.0 = ap (λ (z : Rule). z.symbol) (at_unique A.rules r x y one.2 other.2) in
+    at_unique A.symbols other.0 a b (subst (λ n. IsAt A.symbols n a) places (at_label A one.0 a narrow one.1)) (at_label A other.0 b narrow other.1)
 
 pub lists_once : (B : Automaton) (a : Symbol) (set : Row) (xs ys : List (List ℕ)) → ListsDowns B a set xs → ListsDowns B a set ys → xs ≡ ys
 lists_once B a set xs ys h k = rising_same Precedes precedes_once xs ys h.rising k.rising (λ t. (λ m. (k.all t).1 ((h.all t).0 m), λ m. (h.all t).1 ((k.all t).0 m)))
@@ -46,11 +56,11 @@ module _ (A B : Automaton) (entries : List DownEntry) (e r : ℕ) (of other : Sp
   pairs_same = has_pair_once entries e of.pair other.pair of.named other.named
 
   pub kids_same : of.kids ≡ other.kids
-  kids_same = (rule_once A r of.symbol other.symbol of.kids other.kids of.pair.state other.pair.state of.rule other.rule).1
+  kids_same = kids_once A r of.symbol other.symbol of.kids other.kids of.pair.state other.pair.state of.rule other.rule
 
-  pub tuples_same : of.tuples ≡ other.tuples
-  tuples_same =
-      let symbols = (rule_once A r of.symbol other.symbol of.kids other.kids of.pair.state other.pair.state of.rule other.rule).0 in
+  pub tuples_same : IsNarrow A → of.tuples ≡ other.tuples
+  tuples_same narrow =
+      let symbols = symbol_once A narrow r of.symbol other.symbol of.kids other.kids of.pair.state other.pair.state of.rule other.rule in
       lists_once B other.symbol other.pair.set of.tuples other.tuples
       (subst (λ (a : Symbol). ListsDowns B a other.pair.set of.tuples) symbols (subst (λ (p : Pair). ListsDowns B of.symbol p.set of.tuples) pairs_same of.listed)) other.listed
 
@@ -89,7 +99,7 @@ kids_of_rule A B entries e r of rule at =
     sym line.2 ∙ ap (λ (x : Rule). x.kids) (at_unique A.rules r line.0 rule line.1 at)
 
 -- a split from the pair of its entry, its rule and the tuples
-pub split_of : (A B : Automaton) (entries : List DownEntry) (e r : ℕ) → IsDivided A entries e r → (rule : Rule) → IsAt A.rules r rule → (a : Symbol) → IsAt A.symbols rule.symbol a
+pub split_of : (A B : Automaton) (entries : List DownEntry) (e r : ℕ) → IsDivided A entries e r → (rule : Rule) → IsAt A.rules r rule → (a : Symbol) → IsLabel A rule.symbol a
     → (p : Pair) → HasPair entries e p → (tuples : List (List ℕ)) → ListsDowns B a p.set tuples → SplitsInto A B entries e r tuples
 split_of A B entries e r divided rule at a label p named tuples listed =
     let d = divided.1 in
@@ -102,7 +112,7 @@ split_of A B entries e r divided rule at a label p named tuples listed =
       kids = rule.kids;
       tuples = tuples;
       named = named;
-      rule = subst (IsRule A r a rule.kids) parent (rule_of_line A r rule a at (label_at A rule.symbol a label));
+      rule = subst (IsRule A r a rule.kids) parent (rule_of_line A r rule a at label);
       listed = listed;
     } in
     (made, refl)
@@ -132,3 +142,14 @@ pub rule_kid : (A : Automaton) → IsAutomaton A → (r : ℕ) (rule : Rule) →
 rule_kid A fits r rule at i q kid =
     let f = (All-contains (FitsRule A) A.rules rule fits.fitting (contains_at A.rules r rule at)).kids in
     All-contains (IsState A) rule.kids q f (contains_at rule.kids i q kid)
+
+-- the places of the labels of rules are in range
+pub labels_within : (B : Automaton) → IsListed B → All (λ (rule : Rule). rule.symbol < length B.symbols) B.rules
+labels_within B listed k d l =
+    let f = listed.automaton.fitting k d l in
+    slice_get_within B.symbols (get_or B.rules k d).symbol f.symbol.0 f.symbol.1
+
+pub labels_read : (B : Automaton) (rules : List Rule) (symbols : List Symbol) → rules ≡ B.rules → symbols ≡ B.symbols → IsListed B → All (λ (rule : Rule). rule.symbol < length symbols) rules
+labels_read B rules symbols r s listed =
+    subst (λ (xs : List Rule). All (λ (rule : Rule). rule.symbol < length symbols) xs) (sym r)
+    (subst (λ (ys : List Symbol). All (λ (rule : Rule). rule.symbol < length ys) B.rules) (sym s) (labels_within B listed))

@@ -2,15 +2,15 @@
 use Rattle.std.proofs.Common.{◌≡◌, ◌≢◌, ◌↔◌, ⊎_elim, ℕ, ◌+◌, ◌<◌, List, length, get_or, refl, sym, subst, arith}
 use Rattle.std.proofs.lemmas.Bool.{cases_eq}
 use Rattle.std.proofs.lemmas.Option.{slice_get_read}
-use Rattle.tree_definitions.specs.Automaton.{Automaton, Rule, IsFinal}
+use Rattle.tree_definitions.specs.Automaton.{Automaton, Rule, IsFinal, IsNarrow}
 use Rattle.tree_definitions.specs.Cover.{Pair}
 use Rattle.tree_definitions.specs.DownTrail.{DownEntry, Root, Child, Split, SplitOf, SentBy, IsDownStep, IsOpen}
 use Rattle.tree_definitions.specs.Relation.{Relation, AreEqual, Row, Has, IsAt}
 use Rattle.tree_definitions.proofs.Members.{at_unique}
 use Rattle.listed_pairs.specs.DownEntries.{entries_of, entry_of}
-use Rattle.listed_pairs.specs.Places.{IsFirst}
+use Rattle.listed_pairs.specs.Places.{IsFirst, IsNthAt}
 use Rattle.listed_pairs.specs.declared.entry.DownEntry.{DownEntry as Listed}
-use Rattle.down_trails.specs.Entries.{AllAtBefore, CoversEntry, IsChildOf, IsNthAt}
+use Rattle.down_trails.specs.Entries.{AllAtBefore, CoversEntry, IsChildOf}
 use Rattle.down_trails.proofs.Splitting.{at_map, kids_of_rule, same_row, tuples_same}
 
 pub entry_at : (entries : List Listed) (i : ℕ) (this shape : Listed) → i < length entries → this ≡ get_or entries i this → this ≡ shape → IsAt (entries_of entries) i (entry_of shape)
@@ -64,17 +64,17 @@ module _ (A B : Automaton) (entries : List DownEntry) (i : ℕ) (Yes : Type 0) w
 module _ (A B : Automaton) (entries : List DownEntry) (e r : ℕ) (of : SplitOf A B entries e r) (choice : List ℕ) (place : ℕ) (row : Row)
     (members : (s : ℕ) → Has row s ↔ SentBy of.tuples choice place s) where
   -- the row has what any split of the entry by the rule sends to the place
-  pub sent_same : (other : SplitOf A B entries e r) (s : ℕ) → Has row s ↔ SentBy other.tuples choice place s
-  sent_same other s = subst (λ ts. Has row s ↔ SentBy ts choice place s) (tuples_same A B entries e r of other) (members s)
+  pub sent_same : IsNarrow A → (other : SplitOf A B entries e r) (s : ℕ) → Has row s ↔ SentBy other.tuples choice place s
+  sent_same narrow other s = subst (λ ts. Has row s ↔ SentBy ts choice place s) (tuples_same A B entries e r of other narrow) (members s)
 
-  pub child_by_row : (Yes : Type 0) (pair : Pair) (rule : Rule) → IsAt A.rules r rule → IsAt rule.kids place pair.state → length row ≡ length pair.set
+  pub child_by_row : IsNarrow A → (Yes : Type 0) (pair : Pair) (rule : Rule) → IsAt A.rules r rule → IsAt rule.kids place pair.state → length row ≡ length pair.set
       → (Yes ↔ (row ≡ pair.set)) → Yes ↔ IsChildOf A B entries e r choice place pair
-  child_by_row Yes pair rule at kid long f = (
+  child_by_row narrow Yes pair rule at kid long f = (
     λ y.
         let same = f.0 y in
         let kids = kids_of_rule A B entries e r of rule at in
         (of, subst (λ ks. IsAt ks place pair.state) (sym kids) kid, λ s. (λ m. (members s).0 (subst (λ (x : Row). Has x s) (sym same) m), λ m. subst (λ (x : Row). Has x s) same ((members s).1 m))),
-    λ h. f.1 (same_row row pair.set long (λ s. (λ m. (h.2 s).1 ((sent_same h.0 s).0 m), λ m. (sent_same h.0 s).1 ((h.2 s).0 m)))),
+    λ h. f.1 (same_row row pair.set long (λ s. (λ m. (h.2 s).1 ((sent_same narrow h.0 s).0 m), λ m. (sent_same narrow h.0 s).1 ((h.2 s).0 m)))),
   )
 
 module _ (A B : Automaton) (R : Relation) (entries : List DownEntry) where

@@ -1,15 +1,11 @@
 -- Entries of a downward trail, by their places.
-use Rattle.std.specs.Prelude.{◌≡◌, ℕ, suc, ◌<◌, List, All}
+use Rattle.std.specs.Prelude.{◌≡◌, ℕ, ◌<◌, List, All}
 use Rattle.tree_definitions.specs.Automaton.{Automaton, IsState}
 use Rattle.tree_definitions.specs.Cover.{Pair}
 use Rattle.tree_definitions.specs.DownTrail.{DownEntry, Root, Child, Split, SplitOf, SentBy}
 use Rattle.tree_definitions.specs.DownCert.{CoversAlone}
-use Rattle.tree_definitions.specs.Relation.{Relation, Places, Has, IsAt, AreEqual}
+use Rattle.tree_definitions.specs.Relation.{Relation, Has, IsAt, AreEqual}
 use Rattle.listed_pairs.specs.DownEntries.{DividesBy}
-
--- the n-th item of the list, counted from 1, is of this kind at its place, counted from 0
-abbrev pub IsNthAt : {X : Type 0} → List X → (ℕ → X → Type 0) → Places
-IsNthAt {X} xs Kind n = (i : ℕ) × (x : X) × (n ≡ suc i) × IsAt xs i x × Kind i x
 
 -- each item before place n is of this kind at its place
 abbrev pub AllAtBefore : {X : Type 0} → List X → (ℕ → X → Type 0) → ℕ → Type 0

@@ -6,15 +6,15 @@ ghost use Rattle.tree_definitions.specs.DownCert.{CoversAlone};
 ghost use Rattle.tree_definitions.specs.DownTrail.{DownEntry as EntrySpec, IsOpen};
 ghost use Rattle.tree_definitions.specs.Relation.{Has, Holds, IsAt};
 ghost use Rattle.listed_pairs.specs.DownEntries.{FitDownEntries, entries_of};
-ghost use Rattle.listed_pairs.specs.Places.{IsFirst};
+ghost use Rattle.listed_pairs.specs.Places.{IsFirst, IsNthAt};
 ghost use Rattle.down_conditions.specs.Filing.{AreBySymbol};
-ghost use Rattle.down_trails.specs.Entries.{CoversEntry, CoversSplit, IsDivided, IsNthAt};
+ghost use Rattle.down_trails.specs.Entries.{CoversEntry, CoversSplit, IsDivided};
 
 use crate::sent::sent_to;
 use crate::splits::tuples_of;
 use bit_matrix::Matrix;
 use bit_rows::Row;
-use down_conditions::downs::rules_by_symbol;
+use down_conditions::downs::{alphabet_of, rules_by_symbol};
 use down_conditions::shift::shifted_row;
 use listed_pairs::{DownEntry, Pair};
 use ranked_alphabet::Alphabet;
@@ -131,9 +131,7 @@ pub fn first_covered_alone(
     ensures none { IfOk result (λ first. IfNone first ((i : ℕ) (entry : EntrySpec) → IsAt (entries_of entries.now) i entry → IsOpen a.now b.now (Holds both.now) (entries_of entries.now) entry)) }
     ensures some { IfOk result (λ first. IfSome first (IsFirst (IsNthAt (entries_of entries.now) (λ i entry. IsOpen a.now b.now (Holds both.now) (entries_of entries.now) entry → ⊥)))) }
 {
-    let Ok(alphabet) = Alphabet::of(alloc, b.symbols()) else {
-        return Err(AllocError);
-    };
+    let alphabet = alphabet_of(alloc, b)?;
     let by_symbol = rules_by_symbol(alloc, b.rules(), b.symbols().len())?;
     for at in 0..entries.len() {
         if covers_entry(alloc, a, b, &alphabet, &by_symbol, both, entries, at)? {

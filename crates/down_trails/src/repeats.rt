@@ -5,16 +5,16 @@ ghost use Rattle.tree_definitions.specs.Cover.{Pair as PairSpec};
 ghost use Rattle.tree_definitions.specs.DownTrail.{AreAlike, DownEntry as EntrySpec};
 ghost use Rattle.tree_definitions.specs.Relation.{Has, IsAt};
 ghost use Rattle.listed_pairs.specs.DownEntries.{FitDownEntries, entries_of};
-ghost use Rattle.listed_pairs.specs.Places.{IsFirst};
+ghost use Rattle.listed_pairs.specs.Places.{IsFirst, IsNthAt};
 ghost use Rattle.down_conditions.specs.Filing.{AreBySymbol};
-ghost use Rattle.down_trails.specs.Entries.{IsDivided, IsNthAt};
+ghost use Rattle.down_trails.specs.Entries.{IsDivided};
 ghost use Rattle.down_trails.specs.Keys.{AreMembers, IsKeyOf, IsPairKey, IsSplitKey, RepeatsEntry, parts_of};
 
 use crate::entry::pair_of;
 use crate::sent::sent_to;
 use crate::splits::tuples_of;
 use bit_rows::Row;
-use down_conditions::downs::rules_by_symbol;
+use down_conditions::downs::{alphabet_of, rules_by_symbol};
 use indexmap::IndexSet;
 use listed_pairs::{DownEntry, Pair};
 use ranked_alphabet::Alphabet;
@@ -138,9 +138,9 @@ pub fn first_repeated_entry(
         → AreAlike a.now b.now (entries_of entries.now) earlier later → ⊥)) }
     ensures some { IfOk result (λ first. IfSome first (IsFirst (IsNthAt (entries_of entries.now) (RepeatsEntry a.now b.now (entries_of entries.now))))) }
 {
-    let Ok(alphabet) = Alphabet::of(alloc, b.symbols()) else {
-        return Err(AllocError);
-    };
+    // The call tells the proof that A is narrow.
+    let _rules = a.rules();
+    let alphabet = alphabet_of(alloc, b)?;
     let by_symbol = rules_by_symbol(alloc, b.rules(), b.symbols().len())?;
     let mut seen: IndexSet<Vec<Vec<u32>>, BuildHasherDefault<DefaultHasher>> =
         IndexSet::with_hasher(alloc, BuildHasherDefault::new());

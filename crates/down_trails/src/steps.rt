@@ -6,14 +6,14 @@ ghost use Rattle.tree_definitions.specs.Cover.{FitsPair};
 ghost use Rattle.tree_definitions.specs.DownTrail.{DownEntry as EntrySpec, IsDownStep, SplitOf};
 ghost use Rattle.tree_definitions.specs.Relation.{AreEqual, Has, IsAt};
 ghost use Rattle.listed_pairs.specs.DownEntries.{FitDownEntries, entries_of};
-ghost use Rattle.listed_pairs.specs.Places.{IsFirst};
+ghost use Rattle.listed_pairs.specs.Places.{IsFirst, IsNthAt};
 ghost use Rattle.down_conditions.specs.Filing.{AreBySymbol};
-ghost use Rattle.down_trails.specs.Entries.{IsChildOf, IsDivided, IsNthAt};
+ghost use Rattle.down_trails.specs.Entries.{IsChildOf, IsDivided};
 
 use crate::sent::{row_of, sent_to};
 use crate::splits::tuples_of;
 use bit_rows::Row;
-use down_conditions::downs::rules_by_symbol;
+use down_conditions::downs::{alphabet_of, rules_by_symbol};
 use listed_pairs::{DownEntry, Pair};
 use ranked_alphabet::Alphabet;
 use std::alloc::{AllocError, Global};
@@ -48,6 +48,8 @@ fn is_split(
     requires divided { IsDivided a.now (entries_of entries.now) e r }
     ensures { IfOk result (λ yes. IsTrue yes ↔ ((of : SplitOf a.now b.now (entries_of entries.now) e r) × (length choice.now ≡ length of.tuples))) }
 {
+    // The call tells the proof that A is narrow.
+    let _rules = a.rules();
     let tuples = tuples_of(alloc, a, b, alphabet, by_symbol, entries, e, r)?;
     Ok(choice.len() == tuples.as_slice().len())
 }
@@ -149,9 +151,7 @@ pub fn first_wrong_entry(
     ensures none { IfOk result (λ first. IfNone first ((i : ℕ) (entry : EntrySpec) → IsAt (entries_of entries.now) i entry → IsDownStep a.now b.now (entries_of entries.now) i entry)) }
     ensures some { IfOk result (λ first. IfSome first (IsFirst (IsNthAt (entries_of entries.now) (λ i entry. IsDownStep a.now b.now (entries_of entries.now) i entry → ⊥)))) }
 {
-    let Ok(alphabet) = Alphabet::of(alloc, b.symbols()) else {
-        return Err(AllocError);
-    };
+    let alphabet = alphabet_of(alloc, b)?;
     let by_symbol = rules_by_symbol(alloc, b.rules(), b.symbols().len())?;
     let left = row_of(alloc, a.finals(), a.states().len())?;
     let right = row_of(alloc, b.finals(), b.states().len())?;

@@ -8,9 +8,10 @@ use Rattle.std.proofs.lemmas.List.Elements.{All-nil, All-cons}
 use Rattle.std.proofs.lemmas.Option.{slice_get_within}
 use Rattle.std.proofs.lemmas.List.Quantifiers.{position-Some}
 use Rattle.std.proofs.lemmas.Slice.Eq.{bytes_eq-Decides}
-use Rattle.tree_definitions.specs.Automaton.{Automaton}
+use Rattle.tree_definitions.specs.Automaton.{Automaton, IsNarrow}
 use Rattle.tree_definitions.specs.Relation.{IsAt}
 use Rattle.tree_definitions.specs.UpTrail.{UpEntry}
+use Rattle.tree_definitions.proofs.Listing.{number_at, at_number}
 use Rattle.witness_trees.specs.Judged.{Verdict, Is, then_judged, place_in}
 use Rattle.witness_trees.specs.Answers.{Answers}
 use Rattle.witness_trees.specs.declared.reader.NodesTextError.{NodesTextError}
@@ -36,9 +37,9 @@ made_is : (A B : Automaton) (k : ℕ) (line : List ℕ) (made entry : UpEntry) �
 made_is A B k line made entry text same fits = (sym ((bytes_eq-Decides (entry_text A B made) line).0 text) ∙ ap (entry_text A B) same, subst (FitsUpEntry A B k) same fits)
 
 -- a line that is judged an entry is its text, and the entry fits
-entry_means : (A B : Automaton) (read : List UpEntry) (at : ℕ) (line : List ℕ) (entry : UpEntry) → entry_in A B read at line ≡ Is entry → (line ≡ entry_text A B entry) × FitsUpEntry A B (length read) entry
+entry_means : (A B : Automaton) → IsNarrow A → (read : List UpEntry) (at : ℕ) (line : List ℕ) (entry : UpEntry) → entry_in A B read at line ≡ Is entry → (line ≡ entry_text A B entry) × FitsUpEntry A B (length read) entry
 unfolding entry_in
-entry_means A B read at line entry h = spelled (entry_written line) h
+entry_means A B narrow read at line entry h = spelled (entry_written line) h
   where
     k : ℕ
     k = length read
@@ -63,7 +64,7 @@ entry_means A B read at line entry h = spelled (entry_written line) h
             state = (position-Some (bytes_eq w.state) A.states q w.state state.1).0;
             set = with_length (length B.states) places;
           };
-          symbol = (a.0, a.1, length-map w.kids (λ n. n - 1) ∙ a.2);
+          symbol = (a.0, number_at A.bits A.symbols i a.0 narrow a.1, length-map w.kids (λ n. n - 1) ∙ a.2);
           earlier = earlier_kids k w.kids parts.0;
         } in
         made_is A B k line made entry parts.1 same fits
@@ -85,11 +86,11 @@ fits_at A B read (x ∷ xs) h (suc j) entry p =
     subst (λ n. FitsUpEntry A B n entry) e (fits_at A B (read ++ x ∷ []) xs h.1 j entry p)
 
 -- what is read is a budget and entries that fit, and their text ends the text
-pub up_entries_inverse : (A B : Automaton) (text : List ℕ) (at : ℕ) (found : BudgetedEntries) → at ≤ length text → up_entries_in A B text at ≡ Is found
+pub up_entries_inverse : (A B : Automaton) → IsNarrow A → (text : List ℕ) (at : ℕ) (found : BudgetedEntries) → at ≤ length text → up_entries_in A B text at ≡ Is found
     → AreUpEntries A B found.budget found.entries × (drop at text ≡ up_entries_text A B found.budget found.entries)
 unfolding up_entries_in up_entries_text
-up_entries_inverse A B text at found within h =
-    let r = budgeted_inverse (entry_in A B) (entry_text A B) (λ read entry. FitsUpEntry A B (length read) entry) (entry_means A B) text at found within h in (
+up_entries_inverse A B narrow text at found within h =
+    let r = budgeted_inverse (entry_in A B) (entry_text A B) (λ read entry. FitsUpEntry A B (length read) entry) (entry_means A B narrow) text at found within h in (
       record {
         some = r.some;
         few = r.few;
@@ -102,17 +103,17 @@ up_entries_inverse A B text at found within h =
     )
 
 -- what a reader answers fits
-pub answered_fits : {V : Type 0} (items : V → List UpEntry) (A B : Automaton) (text : List ℕ) (at : ℕ) (result : Result (ℕ × V) NodesTextError) → at ≤ length text → Answers (budgeted_view items) result (up_entries_in A B text at)
+pub answered_fits : {V : Type 0} (items : V → List UpEntry) (A B : Automaton) → IsNarrow A → (text : List ℕ) (at : ℕ) (result : Result (ℕ × V) NodesTextError) → at ≤ length text → Answers (budgeted_view items) result (up_entries_in A B text at)
     → IfOk result (λ found. AreUpEntries A B found.0 (items found.1))
-answered_fits items A B text at (Ok found) within h = (up_entries_inverse A B text at (budgeted_view items found) within h).0
-answered_fits items A B text at (Err error) within h = tt
+answered_fits items A B narrow text at (Ok found) within h = (up_entries_inverse A B narrow text at (budgeted_view items found) within h).0
+answered_fits items A B narrow text at (Err error) within h = tt
 
 -- entries that fit can be printed
-pub fit_printable : (A B : Automaton) (budget : ℕ) (entries : List UpEntry) → AreUpEntries A B budget entries → All (IsPrintable A B) entries
-fit_printable A B budget entries fits = go entries (λ j entry p. printable j entry (fits.fitting j entry p))
+pub fit_printable : (A B : Automaton) → IsNarrow A → (budget : ℕ) (entries : List UpEntry) → AreUpEntries A B budget entries → All (IsPrintable A B) entries
+fit_printable A B narrow budget entries fits = go entries (λ j entry p. printable j entry (fits.fitting j entry p))
   where
     printable : (j : ℕ) (entry : UpEntry) → FitsUpEntry A B j entry → IsPrintable A B entry
-    printable j entry fit = record { pair = fit.pair; symbol = slice_get_within A.symbols entry.symbol fit.symbol.0 fit.symbol.1 }
+    printable j entry fit = record { pair = fit.pair; symbol = slice_get_within A.symbols entry.symbol fit.symbol.0 (at_number A.bits A.symbols entry.symbol fit.symbol.0 narrow fit.symbol.1) }
 
     go : (xs : List UpEntry) → ((j : ℕ) (entry : UpEntry) → IsAt xs j entry → IsPrintable A B entry) → All (IsPrintable A B) xs
     go [] h = All-nil (IsPrintable A B)

@@ -10,7 +10,9 @@ use Rattle.std.proofs.lemmas.List.Splits.{slice_split_none, slice_split_at}
 use Rattle.tree_definitions.specs.Name.{IsName}
 use Rattle.tree_definitions.specs.Tree.{Symbol}
 use Rattle.tree_definitions.specs.Automaton.{Automaton}
+use Rattle.tree_definitions.specs.Relation.{IsAt}
 use Rattle.tree_definitions.specs.UpTrail.{UpEntry}
+use Rattle.tree_definitions.proofs.Listing.{at_number}
 use Rattle.tree_definitions.proofs.Members.{contains_at}
 use Rattle.ta_model.specs.Listing.{IsListed}
 use Rattle.listed_pairs.specs.Members.{members}
@@ -74,10 +76,13 @@ module _ (A B : Automaton) (ours : IsListed A) (theirs : IsListed B) (k : ℕ) (
   state_is : IsName (state_name A.states entry.pair.state)
   state_is = name_is A.states ours.state_names entry.pair.state fits.pair.state
 
+  pub stands : IsAt A.symbols entry.symbol fits.symbol.0
+  stands = at_number A.bits A.symbols entry.symbol fits.symbol.0 ours.narrow fits.symbol.1
+
   symbol_is : IsName (name_at A.symbols entry.symbol)
   symbol_is =
       let a = fits.symbol.0 in
-      let at = fits.symbol.1 in
+      let at = stands in
       subst IsName (sym (name_found A.symbols entry.symbol a at)) (All-contains (λ (x : Symbol). IsName x.name) A.symbols a ours.symbol_names (contains_at A.symbols entry.symbol a at))
 
   small_kids : AreSmall entry.kids

@@ -21,7 +21,7 @@ use Rattle.certificate_lines.proofs.PairNames as states
 use Rattle.certificate_lines.proofs.PairSets.{row_back}
 use Rattle.entry_lines.specs.Entries.{entry_text, up_entries_text, are_numbers_to, entry_of, entry_judged, entry_spelled, entry_in, up_entries_in}
 use Rattle.certificate_kinds.specs.Fitting.{FitsUpEntry, AreUpEntries}
-use Rattle.entry_lines.proofs.Printed.{entry_free, member_states, written_back}
+use Rattle.entry_lines.proofs.Printed.{entry_free, member_states, stands, written_back}
 
 module _ (A B : Automaton) (ours : IsListed A) (theirs : IsListed B) where
   -- a printed entry is read back at its place
@@ -37,9 +37,10 @@ module _ (A B : Automaton) (ours : IsListed A) (theirs : IsListed B) where
       let name = name_at A.symbols entry.symbol in
       let place = at + (length line - length (name ++ kids_text entry.kids)) in
       let a = fits.symbol.0 in
+      let at_symbol : IsAt A.symbols entry.symbol a = stands A B ours theirs k small entry fits in
       let rank : length numbers ≡ a.rank = length-map entry.kids suc ∙ fits.symbol.2 in
       let symbol : place_in A.symbols name (length numbers) ≡ Some entry.symbol =
-      ap₂ (place_in A.symbols) (name_found A.symbols entry.symbol a fits.symbol.1) rank ∙ place_back A.symbols entry.symbol a ours.automaton.symbols fits.symbol.1 in
+      ap₂ (place_in A.symbols) (name_found A.symbols entry.symbol a at_symbol) rank ∙ place_back A.symbols entry.symbol a ours.automaton.symbols at_symbol in
       let size = fits.pair.set in
       let set : row_with (length B.states) places ≡ entry.pair.set = ap (λ n. row_with n places) (sym size) ∙ row_back entry.pair.set in
       let right = and_both (are_numbers_to k numbers) (bytes_eq line line) (suc_within k entry.kids (recursion_from_All (λ j. j < k) entry.kids fits.earlier)) ((bytes_eq-Decides line line).1 refl) in

@@ -277,5 +277,7 @@ pub fn read_up_entries(
     ensures judged { Answers (budgeted_view (λ v. v.items)) result (up_entries_in a.now b.now text.now at) }
     ensures fits { IfOk result (λ found. AreUpEntries a.now b.now found.0 found.1.items) }
 {
+    // The call tells the proof that the automaton is narrow.
+    let _symbols = a.symbols();
     read_all(alloc, a, b, text, at)
 }

@@ -4,9 +4,10 @@ use Rattle.std.specs.Prelude.{All, AllPairs, Contains}
 use Rattle.std.proofs.lemmas.Bool.{cases_lt, cases_eq}
 use Rattle.std.proofs.lemmas.List.Elements.{All-contains, Contains-get_or}
 use Rattle.tree_definitions.specs.Tree.{Symbol}
-use Rattle.tree_definitions.specs.Automaton.{Rules, Automaton, Rule, HasRule, IsRule, IsLabel, IsAutomaton, FitsRule}
+use Rattle.tree_definitions.specs.Automaton.{Rules, Automaton, Rule, HasRule, IsNarrow, IsAutomaton, FitsRule}
 use Rattle.tree_definitions.specs.Relation.{IsAt}
 use Rattle.tree_definitions.proofs.Members.{contains_at, place_of}
+use Rattle.tree_definitions.proofs.Listing.{number_at, label_at, at_label, rule_of_line, rule_parts}
 use Rattle.ta_model.specs.Tuples.{IsRising, Precedes}
 use Rattle.ta_model.specs.Classes.{AreAll, LeadTo, StandWith, IsClassUnder, AreClasses, AreParents, IsUpClassUnder, AreUpClasses}
 use Rattle.ta_model.specs.declared.table.Class.{Class}
@@ -35,18 +36,18 @@ one_place_of xs apart i j x at_i at_j =
     (cases_lt i j))
     (cases_eq i j)
 
-pub automaton_ties : (A : Automaton) → IsAutomaton A → Ties A.symbols (HasRule A) A.rules
-unfolding IsRule IsLabel
-automaton_ties A fits = record {
-  out = λ a kids q h. (h.1.0, h.1.1, contains_at A.rules h.0 (record { symbol = h.1.0; kids = kids; parent = q }) h.1.2);
-  within = λ k a kids q at m. let p = place_of A.rules (record { symbol = k; kids = kids; parent = q }) m in (p.0, (k, at, p.1));
+pub automaton_ties : (A : Automaton) → IsAutomaton A → IsNarrow A → Ties A.symbols (HasRule A) A.rules
+automaton_ties A fits narrow = record {
+  out = λ a kids q h.
+      let p = rule_parts A h.0 a kids q h.1 in
+      (p.0, at_label A p.0 a narrow p.1, contains_at A.rules h.0 (record { symbol = p.0; kids = kids; parent = q }) p.2);
+  within = λ k a kids q at m.
+      let line : Rule = record { symbol = k; kids = kids; parent = q } in
+      let p = place_of A.rules line m in
+      (p.0, rule_of_line A p.0 line a p.1 (label_at A k a narrow at));
   labelled = λ r m. let s = (All-contains (FitsRule A) A.rules r fits.fitting m).symbol in (s.0, s.1);
   one_place = λ k l a at_k at_l. one_place_of A.symbols fits.symbols k l a at_k at_l;
 }
-
-pub label_is : (A : Automaton) (k : ℕ) (a : Symbol) → IsAt A.symbols k a → IsLabel A k a
-unfolding IsLabel
-label_is A k a h = h
 
 -- tuples that rise are distinct
 pub rising_apart : (ts : List (List ℕ)) → IsRising ts → AllPairs ◌≢◌ ts
@@ -75,15 +76,15 @@ module _ (symbols : List Symbol) (H : Rules) (rules : List Rule) (ties : Ties sy
     class_is : (q r : ℕ) (class : Class) (a : Symbol) → IsAt symbols class.symbol a → IsClassAt clusters q r class → IsClassUnder H q r a class
     class_is q r class a at h = record { first = tuples_are q class.symbol a class.first at h.first_tuples; second = tuples_are r class.symbol a class.second at h.second_tuples }
 
-    pub classes_are : (q r : ℕ) (found : List ℕ) (classes : List Class) → AreSymbolsOf clusters q found → AreClassesAt clusters q r found classes → AreClasses symbols H q r classes
-    classes_are q r found classes of h = record {
+    pub classes_are : (bits : ℕ) → bits ≡ 0 → (q r : ℕ) (found : List ℕ) (classes : List Class) → AreSymbolsOf clusters q found → AreClassesAt clusters q r found classes → AreClasses bits symbols H q r classes
+    classes_are bits narrow q r found classes of h = record {
       sound = λ class m.
           let here = h.each class m in
           let kids = here.some.0 in
           let rule : Rule = record { symbol = class.symbol; kids = kids; parent = q } in
           let stands = (kept.same rule).0 here.some.1 in
           let label = ties.labelled rule stands in
-          (label.0, kids, label.1, (under_symbol class.symbol label.0 kids q label.1).0 stands, class_is q r class label.0 label.1 here);
+          (label.0, kids, number_at bits symbols class.symbol label.0 narrow label.1, (under_symbol class.symbol label.0 kids q label.1).0 stands, class_is q r class label.0 label.1 here);
       covering = λ a kids rule.
           let o = ties.out a kids q rule in
           let symbol = (of.members o.0).1 (kids, (kept.same (record { symbol = o.0; kids = kids; parent = q })).1 o.2) in
@@ -108,10 +109,10 @@ module _ (symbols : List Symbol) (H : Rules) (rules : List Rule) (ties : Ties sy
         λ m. let o = ties.out m.0 kids m.1 m.2 in (record { symbol = o.0; kids = kids; parent = m.1 }, o.2, refl, m.3),
       )) h
 
-module _ (A : Automaton) (fits : IsAutomaton A) where
+module _ (A : Automaton) (fits : IsAutomaton A) (narrow : IsNarrow A) where
   parents_are : (kids : List ℕ) (pairs : List (ℕ × ℕ)) (k : ℕ) (a : Symbol) (row : List Bool) → AreLeads A.rules kids pairs → IsAt A.symbols k a → AreParentsUnder (length A.states) pairs k row → AreParents A a kids row
   parents_are kids pairs k a row leads at h =
-      let both = λ (q : ℕ). under_symbol A.symbols (HasRule A) A.rules (automaton_ties A fits) k a kids q at in
+      let both = λ (q : ℕ). under_symbol A.symbols (HasRule A) A.rules (automaton_ties A fits narrow) k a kids q at in
       record {
         width = h.width;
         members = λ q. (λ m. (both q).0 ((leads k q).0 ((h.members q).0 m)), λ r. (h.members q).1 ((leads k q).1 ((both q).1 r)));
@@ -126,7 +127,7 @@ module _ (A : Automaton) (fits : IsAutomaton A) where
         let rule : Rule = record { symbol = class.symbol; kids = first; parent = p } in
         let stands = (led_one class.symbol p).0 here.some.1 in
         let label = ties.labelled rule stands in
-        (label.0, p, label_is A class.symbol label.0 label.1, ties.within class.symbol label.0 first p label.1 stands, under class label.0 label.1 here);
+        (label.0, p, number_at A.bits A.symbols class.symbol label.0 narrow label.1, ties.within class.symbol label.0 first p label.1 stands, under class label.0 label.1 here);
     covering = λ a p rule.
         let o = ties.out a first p rule in
         let c = h.all_symbols o.0 p ((led_one o.0 p).1 o.2) in
@@ -134,7 +135,7 @@ module _ (A : Automaton) (fits : IsAutomaton A) where
   }
     where
       ties : Ties A.symbols (HasRule A) A.rules
-      ties = automaton_ties A fits
+      ties = automaton_ties A fits narrow
 
       under : (class : UpClass) (a : Symbol) → IsAt A.symbols class.symbol a → IsUpClassAt (length A.states) one two class → IsUpClassUnder A first second a class
       under class a at here = record {
@@ -142,7 +143,8 @@ module _ (A : Automaton) (fits : IsAutomaton A) where
         second_parents = parents_are second two class.symbol a class.second led_two at here.second_parents;
       }
 
-  -- the parents of leads are states
+-- the parents of leads are states
+module _ (A : Automaton) (fits : IsAutomaton A) where
   pub leads_within : (kids : List ℕ) (pairs : List (ℕ × ℕ)) → AreLeads A.rules kids pairs → All (λ x. x.1 < length A.states) pairs
   leads_within kids pairs leads k d lt =
       let x = get_or pairs k d in

@@ -8,3 +8,5 @@ pub mod Unions
 pub mod Stepping
 pub mod Grouping
 pub mod UpSteps
+pub mod Down
+pub mod DownGroups

@@ -9,7 +9,6 @@ use Rattle.std.specs.Ordering.{nat_cmp, eq_by_cmp}
 use Rattle.std.specs.Cmp.{IsTotalOrder, IsEquivalence}
 use Rattle.std.specs.Cmp.Lexicographic.{slice_cmp, bytes_decides, texts_ties}
 use Rattle.std.specs.Str.{bytes_eq}
-use Rattle.std.specs.declared.cmp.Ordering.TheVariants.{Less}
 use Rattle.std.proofs.lemmas.Cmp.{nat_list_cmp_total, nat_list_eq_equiv, on_total, on_equiv}
 use Rattle.std.proofs.lemmas.Bool.{cases_lt, ltb-true, ltb-false, leb-true, leb-false}
 use Rattle.std.proofs.Common.{ltb, leb, ◌-◌}
@@ -22,7 +21,7 @@ use Rattle.std.proofs.lemmas.Map.Keys.{Less-from_sorted}
 use Rattle.smallvec.specs.SmallVec.{SmallVec}
 use Rattle.tree_definitions.specs.Relation.{Has}
 use Rattle.tree_definitions.proofs.Members.{contains_none, contains_head, contains_tail, contains_cases}
-use Rattle.ta_model.specs.Tuples.{kids_of}
+use Rattle.ta_model.specs.Tuples.{IsRising, Precedes, kids_of}
 use Rattle.ta_model.specs.Classes.{AreAll}
 use Rattle.shared_clusters.proofs.Groups.{mapped, precedes_none}
 
@@ -85,46 +84,46 @@ kids_cmp v w = slice_cmp nat_cmp v.items w.items
 abbrev pub kids_eq : SmallVec ℕ → SmallVec ℕ → Bool
 kids_eq v w = bytes_eq v.items w.items
 
-pub distinct_kids : (xs sorted out : List (SmallVec ℕ)) → IsPermutation xs sorted → IsSorted kids_cmp sorted → IsFiltered (DiffersFromLast kids_eq) [] sorted out
-    → AreAll (Contains (kids_of xs)) (kids_of out)
-distinct_kids xs sorted out moved rising filtered = record { distinct = apart; members = λ t. (there t, back t) }
-  where
-    f : SmallVec ℕ → List ℕ
-    f v = v.items
+module _ (sorted out : List (SmallVec ℕ)) (rising : IsSorted kids_cmp sorted) (filtered : IsFiltered (DiffersFromLast kids_eq) [] sorted out) where
+  is_dedup : out ≡ dedup kids_eq sorted
+  is_dedup = dedup_is kids_eq sorted out filtered
 
-    total : IsTotalOrder kids_cmp
-    total = on_total (λ (v : SmallVec ℕ). v.items) nat_list_cmp_total
+  pub rising_kids : IsRising (kids_of out)
+  rising_kids i j d lt within =
+      let long = length-map out (λ (v : SmallVec ℕ). v.items) in
+      mapped (λ (v : SmallVec ℕ). v.items) (λ t. Precedes t (get_or (kids_of out) j d)) out i d (omega arith) (λ e.
+      mapped (λ (v : SmallVec ℕ). v.items) (λ t. Precedes (get_or out i e).items t) out j d (omega arith) (λ w.
+      let less : Precedes (get_or out i e).items (get_or out j e).items = Less-from_sorted kids_cmp out i j e strictly lt (omega arith) in
+      let same_end : get_or out j e ≡ get_or out j w = get_or_any out j e w (omega arith) in
+      subst (λ (v : SmallVec ℕ). Precedes (get_or out i e).items v.items) same_end less))
+    where
+      total : IsTotalOrder kids_cmp
+      total = on_total (λ (v : SmallVec ℕ). v.items) nat_list_cmp_total
 
-    same : IsEquivalence kids_eq
-    same = on_equiv (λ (v : SmallVec ℕ). v.items) nat_list_eq_equiv
+      strictly : IsStrictlySortedBy kids_cmp out
+      strictly = subst (IsStrictlySortedBy kids_cmp) (sym is_dedup) (IsStrictlySortedBy-dedup total (λ x y. texts_ties x.items y.items) sorted rising)
 
-    is : out ≡ dedup kids_eq sorted
-    is = dedup_is kids_eq sorted out filtered
+  pub distinct_kids : (xs : List (SmallVec ℕ)) → IsPermutation xs sorted → AreAll (Contains (kids_of xs)) (kids_of out)
+  distinct_kids xs moved = record { distinct = apart; members = λ t. (there t, back t) }
+    where
+      apart : AllPairs ◌≢◌ (kids_of out)
+      apart i j d lt within e = precedes_none (get_or (kids_of out) i d) (subst (λ t. Precedes (get_or (kids_of out) i d) t) (sym e) (rising_kids i j d lt within))
 
-    strictly : IsStrictlySortedBy kids_cmp out
-    strictly = subst (IsStrictlySortedBy kids_cmp) (sym is) (IsStrictlySortedBy-dedup total (λ x y. texts_ties x.items y.items) sorted rising)
+      same : IsEquivalence kids_eq
+      same = on_equiv (λ (v : SmallVec ℕ). v.items) nat_list_eq_equiv
 
-    apart : AllPairs ◌≢◌ (kids_of out)
-    apart i j d lt within =
-        let long = length-map out (λ (v : SmallVec ℕ). v.items) in
-        mapped (λ (v : SmallVec ℕ). v.items) (λ t. t ≢ get_or (kids_of out) j d) out i d (omega arith) (λ e.
-        mapped (λ (v : SmallVec ℕ). v.items) (λ t. (get_or out i e).items ≢ t) out j d (omega arith) (λ w eq.
-        let less : slice_cmp nat_cmp (get_or out i e).items (get_or out j e).items ≡ Less = Less-from_sorted kids_cmp out i j e strictly lt (omega arith) in
-        let same_end : get_or out j e ≡ get_or out j w = get_or_any out j e w (omega arith) in
-        precedes_none (get_or out i e).items (subst (λ t. slice_cmp nat_cmp (get_or out i e).items t ≡ Less) (ap (λ v. v.items) same_end ∙ sym eq) less)))
+      there : (t : List ℕ) → Contains (kids_of out) t → Contains (kids_of xs) t
+      there t m =
+          let v = image_out (λ (v : SmallVec ℕ). v.items) out t m in
+          let here : Contains (dedup kids_eq sorted) v.0 = subst (λ l. Contains l v.0) is_dedup v.1 in
+          subst (Contains (kids_of xs)) v.2 (image_in (λ (v : SmallVec ℕ). v.items) xs v.0 (Contains-permutation sorted xs v.0 (IsPermutation-sym xs sorted moved) (Contains-from_dedup kids_eq sorted v.0 here)))
 
-    there : (t : List ℕ) → Contains (kids_of out) t → Contains (kids_of xs) t
-    there t m =
-        let v = image_out (λ (v : SmallVec ℕ). v.items) out t m in
-        let here : Contains (dedup kids_eq sorted) v.0 = subst (λ l. Contains l v.0) is v.1 in
-        subst (Contains (kids_of xs)) v.2 (image_in (λ (v : SmallVec ℕ). v.items) xs v.0 (Contains-permutation sorted xs v.0 (IsPermutation-sym xs sorted moved) (Contains-from_dedup kids_eq sorted v.0 here)))
-
-    back : (t : List ℕ) → Contains (kids_of xs) t → Contains (kids_of out) t
-    back t m =
-        let v = image_out (λ (v : SmallVec ℕ). v.items) xs t m in
-        let w = Any-dedup same sorted v.0 (Contains-permutation xs sorted v.0 moved v.1) in
-        let equal : v.0.items ≡ w.1.items = (bytes_decides v.0.items w.1.items).0 w.4 in
-        subst (Contains (kids_of out)) (sym equal ∙ v.2) (image_in (λ (v : SmallVec ℕ). v.items) out w.1 (subst (λ l. Contains l w.1) (sym is) (w.0, w.2, w.3)))
+      back : (t : List ℕ) → Contains (kids_of xs) t → Contains (kids_of out) t
+      back t m =
+          let v = image_out (λ (v : SmallVec ℕ). v.items) xs t m in
+          let w = Any-dedup same sorted v.0 (Contains-permutation xs sorted v.0 moved v.1) in
+          let equal : v.0.items ≡ w.1.items = (bytes_decides v.0.items w.1.items).0 w.4 in
+          subst (Contains (kids_of out)) (sym equal ∙ v.2) (image_in (λ (v : SmallVec ℕ). v.items) out w.1 (subst (λ l. Contains l w.1) (sym is_dedup) (w.0, w.2, w.3)))
 
 -- ---- what stands under a key
 

@@ -1,5 +1,5 @@
 -- The automaton with some states alone.
-use Rattle.std.proofs.Common.{◌≡◌, ◌≢◌, ◌↔◌, ℕ, zero, suc, ◌+◌, ◌<◌, ◌≤◌, List, [], ◌∷◌, ◌++◌, Bool, true, false, ◌&&◌, cond, length, get_or, map, Some, refl, sym, ap, subst, ◌∙◌, arith, ⊎_elim}
+use Rattle.std.proofs.Common.{◌≡◌, ◌≢◌, ◌↔◌, inl, ℕ, zero, suc, ◌+◌, ◌<◌, ◌≤◌, List, [], ◌∷◌, ◌++◌, Bool, true, false, ◌&&◌, cond, length, get_or, map, Some, refl, sym, ap, subst, ◌∙◌, arith, ⊎_elim}
 use Rattle.std.specs.Prelude.{All, AllPairs, Contains, filter, slice_index}
 use Rattle.std.specs.List.{AllZip, list_all}
 use Rattle.std.proofs.lemmas.Bool.{cases_eq}
@@ -181,18 +181,13 @@ module _ (row : Row) (kept numbers : List ℕ) (n : ℕ) (h : IsNumbering row ke
 -- ---- the part
 
 -- automata with the same lists
-pub same_lists : (A B : Automaton) → A.name ≡ B.name → A.symbols ≡ B.symbols → A.states ≡ B.states → A.finals ≡ B.finals → A.rules ≡ B.rules → A ≡ B
-same_lists A B n s q f r =
-    let by_name : List ℕ → Automaton = λ v. record { name = v; symbols = A.symbols; states = A.states; finals = A.finals; rules = A.rules } in
-    let by_symbols : List Symbol → Automaton = λ v. record { name = B.name; symbols = v; states = A.states; finals = A.finals; rules = A.rules } in
-    let by_states : List (List ℕ) → Automaton = λ v. record { name = B.name; symbols = B.symbols; states = v; finals = A.finals; rules = A.rules } in
-    let by_finals : List ℕ → Automaton = λ v. record { name = B.name; symbols = B.symbols; states = B.states; finals = v; rules = A.rules } in
-    let by_rules : List Rule → Automaton = λ v. record { name = B.name; symbols = B.symbols; states = B.states; finals = B.finals; rules = v } in
-    ap by_name n ∙ ap by_symbols s ∙ ap by_states q ∙ ap by_finals f ∙ ap by_rules r
+pub same_lists : (A B : Automaton) → A.bits ≡ B.bits → A.name ≡ B.name → A.symbols ≡ B.symbols → A.states ≡ B.states → A.finals ≡ B.finals → A.rules ≡ B.rules → A ≡ B
+same_lists A B b n s q f r = λ i. record { bits = b i; name = n i; symbols = s i; states = q i; finals = f i; rules = r i }
 
 -- A with these rules of it, as far as they are between kept states, and with these names and numbers for the kept states
 abbrev pub part_with : Automaton → List Rule → Row → List ℕ → List (List ℕ) → Automaton
 part_with A left row numbers names = record {
+  bits = 0;
   name = A.name;
   symbols = A.symbols;
   states = names;
@@ -318,11 +313,13 @@ module _ (A : Automaton) (listed : IsListed A) (left : List Rule) (row : Row) (k
     fitting = all_from (FitsRule (part_with A left row numbers names)) (map g (filter (is_between row) left)) (λ s n.
         let o = image_filter_out g (is_between row) left s n in
         subst (FitsRule (part_with A left row numbers names)) o.3 (part_fits o.0 ((is_left o.0).0 o.1).0 o.2));
+    form = inl refl;
   }
 
   pub part_listed : IsListed (part_with A left row numbers names)
   part_listed = record {
     automaton = part_automaton;
+    narrow = refl;
     name = listed.name;
     symbol_names = listed.symbol_names;
     state_names = all_from IsName names (λ y m.
@@ -343,10 +340,10 @@ module _ (A : Automaton) (listed : IsListed A) (left : List Rule) (row : Row) (k
   part_rules a kids i = (there, back)
     where
       part_ties : Ties A.symbols (HasRule (part_with A left row numbers names)) (map g (filter (is_between row) left))
-      part_ties = automaton_ties (part_with A left row numbers names) part_automaton
+      part_ties = automaton_ties (part_with A left row numbers names) part_automaton refl
 
       ties : Ties A.symbols (HasRule A) A.rules
-      ties = automaton_ties A listed.automaton
+      ties = automaton_ties A listed.automaton listed.narrow
 
       there : HasRule (part_with A left row numbers names) a kids i → (qs : List ℕ) × (q : ℕ) × AllZip (IsAt kept) kids qs × IsAt kept i q × HasRule A a qs q
       there h =
@@ -377,8 +374,9 @@ module _ (A : Automaton) (listed : IsListed A) (left : List Rule) (row : Row) (k
 
   pub part_restricts : RestrictsTo A (part_with A left row numbers names) row kept
   part_restricts = record {
+    bits = sym listed.narrow;
     name = refl;
-    symbols = refl;
+    symbols = λ n. refl;
     rising = λ k lt. nb.rising k (k + 1) 0 (omega arith) lt;
     chosen = λ q. (
       λ m. (kept_is q m).1,
@@ -391,4 +389,5 @@ module _ (A : Automaton) (listed : IsListed A) (left : List Rule) (row : Row) (k
           (image_in (slice_index numbers) (filter (is_in row) A.finals) h.0 (filter_in (is_in row) A.finals h.0 h.2 (has_in row h.0 (kept_is h.0 (contains_at kept i h.0 h.1)).1))),
     );
     rules = part_rules;
+    fitting = part_automaton;
   }

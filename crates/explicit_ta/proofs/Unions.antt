@@ -167,7 +167,7 @@ zip_long S [] (p ∷ ps) h = absurd h
 zip_long S (c ∷ cs) [] h = absurd h
 zip_long S (c ∷ cs) (p ∷ ps) h = ap suc (zip_long S cs ps h.1)
 
-sums_tell : (n : ℕ) (xs ys : List ℕ) → map (λ s. n + s) xs ≡ map (λ s. n + s) ys → xs ≡ ys
+pub sums_tell : (n : ℕ) (xs ys : List ℕ) → map (λ s. n + s) xs ≡ map (λ s. n + s) ys → xs ≡ ys
 sums_tell n [] [] e = refl
 sums_tell n [] (y ∷ ys) e = absurd cc
 sums_tell n (x ∷ xs) [] e = absurd cc
@@ -179,13 +179,13 @@ sums_tell n (x ∷ xs) (y ∷ ys) e =
 
 module _ (A B : Automaton) (paired : ArePaired A B) (symbols : List Symbol) (places : List ℕ) (are : symbols ≡ joint_symbols A.symbols B.symbols)
     (distinct : AllPairs ◌≢◌ symbols) (placed : AllZip (IsAt symbols) places B.symbols) where
-  a_ties : Ties A.symbols (HasRule A) A.rules
-  a_ties = automaton_ties A paired.left.automaton
+  pub a_ties : Ties A.symbols (HasRule A) A.rules
+  a_ties = automaton_ties A paired.left.automaton paired.left.narrow
 
-  b_ties : Ties B.symbols (HasRule B) B.rules
-  b_ties = automaton_ties B paired.right.automaton
+  pub b_ties : Ties B.symbols (HasRule B) B.rules
+  b_ties = automaton_ties B paired.right.automaton paired.right.narrow
 
-  left_label : (k : ℕ) (a : Symbol) → IsAt A.symbols k a → IsAt symbols k a
+  pub left_label : (k : ℕ) (a : Symbol) → IsAt A.symbols k a → IsAt symbols k a
   left_label k a at = subst (λ l. IsAt l k a) (sym are) (at_append A.symbols _ k a at)
 
   pub joint_ties : Ties symbols (JointRule A B) (joint_rules A B places)
@@ -237,6 +237,7 @@ module _ (A B : Automaton) (paired : ArePaired A B) (symbols : List Symbol) (pla
 
   abbrev pub union_with : Automaton
   union_with = record {
+    bits = 0;
     name = codes "union";
     symbols = symbols;
     states = marked (codes "_1") A.states ++ marked (codes "_2") B.states;
@@ -321,12 +322,14 @@ module _ (A B : Automaton) (paired : ArePaired A B) (symbols : List Symbol) (pla
         (λ n. left_fits r (All-contains (FitsRule A) A.rules r paired.left.automaton.fitting n))
         (λ n. let o = image_out (moved A places) B.rules r n in subst (FitsRule union_with) o.2 (right_fits o.0 (b_fits o.0 o.1)))
         (Contains-append_cases A.rules (map (moved A places) B.rules) r m));
+    form = inl refl;
   }
 
   pub union_listed : IsListed union_with
   unfolding is_section_word
   union_listed = record {
     automaton = union_automaton;
+    narrow = refl;
     name = refl;
     symbol_names = subst (All (λ a. IsName a.name)) (sym are) (All-append (λ a. IsName a.name) A.symbols _ paired.left.symbol_names (all_from (λ a. IsName a.name) _ (λ a m. All-contains (λ b. IsName b.name) B.symbols a paired.right.symbol_names (filter_out _ B.symbols a m).0)));
     state_names = All-append IsName (marked (codes "_1") A.states) (marked (codes "_2") B.states)
@@ -343,8 +346,9 @@ module _ (A B : Automaton) (paired : ArePaired A B) (symbols : List Symbol) (pla
 
   pub union_is : IsUnion A B union_with
   union_is = record {
+    bits = sym paired.left.narrow;
     name = refl;
-    symbols = are;
+    symbols = λ n. are;
     states = refl;
     finals = λ q. (
       λ m. ⊎_elim (λ n. inl n) (λ n. let o = image_out (right A) B.finals q n in inr (o.0, sym o.2, o.1)) (Contains-append_cases A.finals (map (right A) B.finals) q m),
@@ -357,10 +361,11 @@ module _ (A B : Automaton) (paired : ArePaired A B) (symbols : List Symbol) (pla
       λ h. let o = union_ties.out a kids q h in joint_ties.within o.0 a kids q o.1 o.2,
       λ h. let o = joint_ties.out a kids q h in union_ties.within o.0 a kids q o.1 o.2,
     );
+    fitting = union_automaton;
   }
     where
       union_ties : Ties symbols (HasRule union_with) (joint_rules A B places)
-      union_ties = automaton_ties union_with union_automaton
+      union_ties = automaton_ties union_with union_automaton refl
 
 -- a canonical form has no more rules
 pub fewer_rules : (A : Automaton) → IsAutomaton (canon A) → length (canon A).rules ≤ length A.rules

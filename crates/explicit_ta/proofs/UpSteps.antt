@@ -10,6 +10,7 @@ use Rattle.tree_definitions.specs.Cover.{Post}
 use Rattle.tree_definitions.specs.Joint.{joint_symbols}
 use Rattle.tree_definitions.specs.Relation.{Row, IsAt}
 use Rattle.tree_definitions.proofs.Members.{at_unique}
+use Rattle.tree_definitions.proofs.Listing.{number_at}
 use Rattle.ta_model.specs.declared.joint.UpGroup.{UpGroup}
 use Rattle.ta_model.specs.Macrostates.{Macrostates}
 use Rattle.ta_model.specs.Pairing.{ArePaired}
@@ -17,7 +18,7 @@ use Rattle.ta_model.specs.UpGroups.{AreUpGroups, IsUpGroup}
 use Rattle.shared_clusters.proofs.Rules.{same_rule}
 use Rattle.explicit_ta.specs.Index.{AreLeads, HaveSameRules}
 use Rattle.explicit_ta.specs.Steps.{AreGroupsAt, IsGroupAt, IsReachedUnder, relabelled}
-use Rattle.explicit_ta.proofs.Bridges.{Ties, automaton_ties, label_is, one_place_of, under_symbol}
+use Rattle.explicit_ta.proofs.Bridges.{Ties, automaton_ties, one_place_of, under_symbol}
 use Rattle.explicit_ta.proofs.Lists.{image_in, image_out}
 use Rattle.explicit_ta.proofs.Parts.{at_append}
 use Rattle.explicit_ta.proofs.Unions.{zip_long, zip_place}
@@ -41,10 +42,10 @@ symbols_within B fits symbols places placed k d lt =
 module _ (A B : Automaton) (paired : ArePaired A B) (symbols : List Symbol) (places : List ℕ) (are : symbols ≡ joint_symbols A.symbols B.symbols)
     (distinct : AllPairs ◌≢◌ symbols) (placed : AllZip (IsAt symbols) places B.symbols) where
   a_ties : Ties A.symbols (HasRule A) A.rules
-  a_ties = automaton_ties A paired.left.automaton
+  a_ties = automaton_ties A paired.left.automaton paired.left.narrow
 
   b_ties : Ties B.symbols (HasRule B) B.rules
-  b_ties = automaton_ties B paired.right.automaton
+  b_ties = automaton_ties B paired.right.automaton paired.right.narrow
 
   left_label : (k : ℕ) (a : Symbol) → IsAt A.symbols k a → IsAt symbols k a
   left_label k a at = subst (λ l. IsAt l k a) (sym are) (at_append A.symbols _ k a at)
@@ -83,7 +84,6 @@ module _ (A B : Automaton) (paired : ArePaired A B) (symbols : List Symbol) (pla
 
     group_is : (group : UpGroup) (a : Symbol) → IsAt A.symbols group.symbol a → IsGroupAt pairs steps sets store group → IsUpGroup A B kids sets store a group
     group_is group a at h = record {
-      label = label_is A group.symbol a at;
       distinct = h.distinct;
       parents = λ p.
           let rule = under_symbol A.symbols (HasRule A) A.rules a_ties group.symbol a kids p at in (
@@ -102,10 +102,9 @@ module _ (A B : Automaton) (paired : ArePaired A B) (symbols : List Symbol) (pla
           let rule : Rule = record { symbol = g.symbol; kids = kids; parent = p } in
           let stands = (leads g.symbol p).0 here.some.1 in
           let label = a_ties.labelled rule stands in
-          (label.0, p, a_ties.within g.symbol label.0 kids p label.1 stands, group_is g label.0 label.1 here);
+          (label.0, p, number_at A.bits A.symbols g.symbol label.0 paired.left.narrow label.1, a_ties.within g.symbol label.0 kids p label.1 stands, group_is g label.0 label.1 here);
       covering = λ a p rule.
           let o = a_ties.out a kids p rule in
           let g = h.all_symbols o.0 p ((leads o.0 p).1 o.2) in
           (g.0, g.1, group_is g.0 a (subst (λ k. IsAt A.symbols k a) (sym g.2) o.1) (h.each g.0 g.1));
-      single = h.single;
     }

@@ -1,3 +1,4 @@
+pub mod Down
 pub mod Index
 pub mod Moves
 pub mod Pair

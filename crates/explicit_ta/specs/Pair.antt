@@ -30,6 +30,15 @@ pub record IsUpEncoding (A B : Automaton) (places : List ℕ) (uses : List (List
   pub by_kids_distinct : AllPairs ◌≢◌ by_kids
   pub steps_of : HaveSameRules steps (map (relabelled places) B.rules)
 
+-- what is kept beside the lists of two automata
+pub record AreParts (A B : Automaton) (places : List ℕ) (clusters : List (List Group)) (left_finals right_finals : List Bool) (uses : List (List Group)) (by_kids steps : List Rule) : Type 0 where
+  pub rules_of : AreRulesOf clusters (length A.states + length B.states) (joint_rules A B places)
+  pub left_width : length left_finals ≡ length A.states
+  pub left_are : (q : ℕ) → Has left_finals q ↔ IsFinal A q
+  pub right_width : length right_finals ≡ length B.states
+  pub right_are : (q : ℕ) → Has right_finals q ↔ IsFinal B q
+  pub up : IsUpEncoding A B places uses by_kids steps
+
 -- how two automata are kept together
 pub record IsPairEncoding (A B : Automaton) (symbols : List Symbol) (places : List ℕ) (clusters : List (List Group)) (left_finals right_finals : List Bool) (uses : List (List Group)) (by_kids steps : List Rule) : Type 0 where
   pub paired : ArePaired A B

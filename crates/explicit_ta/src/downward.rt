@@ -25,7 +25,7 @@ pub fn clusters_of(alloc: Global, parents: u32, rules: &[Rule]) -> Result<Cluste
 }
 
 /// The symbols under which the parent has rules.
-fn symbols_under(alloc: Global, clusters: &Clusters, q: u32) -> Result<Vec<u32>, AllocError>
+pub fn symbols_under(alloc: Global, clusters: &Clusters, q: u32) -> Result<Vec<u32>, AllocError>
     requires { q < length clusters.now }
     ensures value { IfOk result (λ v. v.items ≡ symbols_of clusters.now q) }
     ensures symbols { IfOk result (λ v. AreSymbolsOf clusters.now q v.items) }

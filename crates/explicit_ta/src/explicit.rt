@@ -94,6 +94,11 @@ impl Table for Explicit {
         0
     }
 
+    fn bits(&self) -> u8 {
+        let _listed = self.list.rules();
+        0
+    }
+
     fn states(&self) -> u32 {
         self.list.states().len() as u32
     }

@@ -3,6 +3,7 @@
 
 mod by_kids;
 mod distinct;
+mod down_groups;
 mod downward;
 mod explicit;
 mod pair;

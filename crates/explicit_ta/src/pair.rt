@@ -5,10 +5,13 @@ ghost use Rattle.tree_definitions.specs.Canonical.{canon};
 ghost use Rattle.tree_definitions.specs.Joint.{joint_symbols};
 ghost use Rattle.std.specs.List.{AllZip};
 ghost use Rattle.tree_definitions.specs.Relation.{IsAt};
+ghost use Rattle.ranked_alphabet.specs.Alphabets.{IsAlphabet};
 ghost use Rattle.ta_model.specs.Pairing.{ArePaired, FitTogether};
-ghost use Rattle.explicit_ta.specs.Pair.{joint_rules};
+ghost use Rattle.explicit_ta.specs.Index.{AreRulesOf};
+ghost use Rattle.explicit_ta.specs.Pair.{AreParts, IsUpEncoding, joint_rules};
 
 use crate::by_kids::ByKids;
+use crate::down_groups::down_groups_at;
 use crate::downward::{classes_at, clusters_of};
 use crate::explicit::{Explicit, row_of};
 use crate::steps::Steps;
@@ -21,7 +24,9 @@ use shared_clusters::Clusters;
 use smallvec::SmallVec;
 use std::alloc::{AllocError, Global};
 use std::marker::Model;
-use ta_model::{Class, Joint, Kids, Listed, MacroStore, PairError, Rule, Symbol, UpGroup};
+use ta_model::{
+    Class, DownGroup, Joint, Kids, Listed, MacroStore, PairError, Rule, Symbol, UpGroup,
+};
 
 /// Two automata as their lists, with the rules of both by joint parent, the left rules by child and
 /// by children, and the right rules by joint symbol and first child.
@@ -47,20 +52,6 @@ impl Model for ExplicitPair {
     ghost view = { λ p. record { left = p.left; right = p.right } };
 
     ghost invariant = { λ p. IsPairEncoding p.left p.right p.symbols p.places.items p.clusters p.left_finals p.right_finals p.uses p.by_kids p.steps };
-}
-
-/// The alphabet of these symbols.
-fn alphabet_of(alloc: Global, symbols: &[Symbol]) -> Result<Alphabet, AllocError>
-    requires { AllPairs ◌≢◌ symbols.now }
-    ensures { IfOk result (λ a. a ≡ symbols.now) }
-{
-    let mut alphabet = Alphabet::new(alloc);
-    for symbol in symbols {
-        let Ok(_) = alphabet.intern(symbol) else {
-            return Err(AllocError);
-        };
-    }
-    Ok(alphabet)
 }
 
 /// The rule over joint places.
@@ -106,25 +97,87 @@ fn merged(
     alloc: Global,
     left: &[Symbol],
     right: &[Symbol],
-) -> Result<(Alphabet, Vec<u32>), PairError>
-    requires left { AllPairs ◌≢◌ left.now }
-    requires right { AllPairs ◌≢◌ right.now }
+) -> Result<(Alphabet, Vec<u32>), AlphabetError>
+    requires left { IsAlphabet left.now }
+    requires right { IsAlphabet right.now }
     ensures symbols { IfOk result (λ r. r.0 ≡ joint_symbols left.now right.now) }
     ensures places { IfOk result (λ r. AllZip (IsAt r.0) r.1.items right.now) }
     ensures few { IfOk result (λ r. length (joint_symbols left.now right.now) ≤ 65535) }
-    ensures full { IsErrOf result PairError.Symbols → 65535 < length (joint_symbols left.now right.now) }
+    ensures full { IsErrOf result AlphabetError.Full → 65535 < length (joint_symbols left.now right.now) }
 {
-    let Ok(mine) = alphabet_of(alloc, left) else {
-        return Err(PairError::Memory);
-    };
-    let Ok(theirs) = alphabet_of(alloc, right) else {
-        return Err(PairError::Memory);
-    };
-    match mine.merge(&theirs) {
-        Ok(both) => Ok(both),
-        Err(AlphabetError::Full) => Err(PairError::Symbols),
-        Err(AlphabetError::Memory) => Err(PairError::Memory),
-    }
+    let mine = Alphabet::of(alloc, left)?;
+    let theirs = Alphabet::of(alloc, right)?;
+    mine.merge(&theirs)
+}
+
+/// What the steps upward are answered from: the left rules by child and by children, and the right
+/// rules by joint symbol and first child.
+#[derive(Drop)]
+struct Upward {
+    uses: Clusters,
+    by_kids: ByKids,
+    steps: Steps,
+}
+
+/// What the steps upward of the two are answered from.
+fn upward_of(left: &Listed, right: &Listed, places: &[u32]) -> Result<Upward, AllocError>
+    requires paired { ArePaired left.now right.now }
+    requires symbols { All (λ r. r.symbol < length places.now) right.now.rules }
+    ensures { IfOk result (λ u. IsUpEncoding left.now right.now places.now u.uses u.by_kids u.steps) }
+{
+    let alloc = left.allocator();
+    let states = left.states().len() as u32;
+    let uses = uses_of(alloc, states, left.rules())?;
+    let by_kids = ByKids::new(alloc, left.rules())?;
+    let steps = Steps::of(alloc, right.rules(), places)?;
+    Ok(Upward {
+        uses,
+        by_kids,
+        steps,
+    })
+}
+
+/// The rules of both by joint parent.
+fn clusters_of_both(left: &Listed, right: &Listed, places: &[u32]) -> Result<Clusters, AllocError>
+    requires paired { ArePaired left.now right.now }
+    requires places { length places.now ≡ length right.now.symbols }
+    requires parents { All (λ r. r.parent < length left.now.states + length right.now.states) (joint_rules left.now right.now places.now) }
+    ensures { IfOk result (λ t. AreRulesOf t (length left.now.states + length right.now.states) (joint_rules left.now right.now places.now)) }
+{
+    let alloc = left.allocator();
+    let states = left.states().len() as u32 + right.states().len() as u32;
+    let rules = rules_of_both(alloc, left, right, places)?;
+    clusters_of(alloc, states, &rules)
+}
+
+/// What a pair keeps beside its lists.
+#[derive(Drop)]
+struct Parts {
+    clusters: Clusters,
+    left_finals: Row,
+    right_finals: Row,
+    upward: Upward,
+}
+
+/// What a pair of the two keeps beside its lists.
+fn parts_of(left: &Listed, right: &Listed, places: &[u32]) -> Result<Parts, AllocError>
+    requires paired { ArePaired left.now right.now }
+    requires places { length places.now ≡ length right.now.symbols }
+    requires parents { All (λ r. r.parent < length left.now.states + length right.now.states) (joint_rules left.now right.now places.now) }
+    requires symbols { All (λ r. r.symbol < length places.now) right.now.rules }
+    ensures { IfOk result (λ p. AreParts left.now right.now places.now p.clusters p.left_finals p.right_finals p.upward.uses p.upward.by_kids p.upward.steps) }
+{
+    let alloc = left.allocator();
+    let clusters = clusters_of_both(left, right, places)?;
+    let left_finals = row_of(alloc, left.states().len() as u32, left.finals())?;
+    let right_finals = row_of(alloc, right.states().len() as u32, right.finals())?;
+    let upward = upward_of(left, right, places)?;
+    Ok(Parts {
+        clusters,
+        left_finals,
+        right_finals,
+        upward,
+    })
 }
 
 impl ExplicitPair {
@@ -141,27 +194,19 @@ impl ExplicitPair {
         requires places { AllZip (IsAt symbols) places.items right.symbols }
         ensures { IfOk result (λ p. p ≡ record { left = left; right = right }) }
     {
-        let alloc = left.allocator();
-        let left_states = left.states().len() as u32;
-        let right_states = right.states().len() as u32;
-        let rules = rules_of_both(alloc, &left, &right, &places)?;
-        let clusters = clusters_of(alloc, left_states + right_states, &rules)?;
-        let left_finals = row_of(alloc, left_states, left.finals())?;
-        let right_finals = row_of(alloc, right_states, right.finals())?;
-        let uses = uses_of(alloc, left_states, left.rules())?;
-        let by_kids = ByKids::new(alloc, left.rules())?;
-        let steps = Steps::of(alloc, right.rules(), &places)?;
+        let _distinct = symbols.symbols();
+        let parts = parts_of(&left, &right, &places)?;
         Ok(ExplicitPair {
             left,
             right,
             symbols,
             places,
-            clusters,
-            left_finals,
-            right_finals,
-            uses,
-            by_kids,
-            steps,
+            clusters: parts.clusters,
+            left_finals: parts.left_finals,
+            right_finals: parts.right_finals,
+            uses: parts.upward.uses,
+            by_kids: parts.upward.by_kids,
+            steps: parts.upward.steps,
         })
     }
 
@@ -182,7 +227,8 @@ impl ExplicitPair {
         let alloc = left.allocator();
         let (symbols, places) = match merged(alloc, left.symbols(), right.symbols()) {
             Ok(both) => both,
-            Err(error) => return Err(error),
+            Err(AlphabetError::Full) => return Err(PairError::Symbols),
+            Err(AlphabetError::Memory) => return Err(PairError::Memory),
         };
         match ExplicitPair::of_lists(left, right, symbols, places) {
             Ok(pair) => Ok(pair),
@@ -201,6 +247,12 @@ impl Joint for ExplicitPair {
     ghost nodes = { λ _. 0 };
 
     fn nodes(&self) -> usize {
+        0
+    }
+
+    fn bits(&self) -> u8 {
+        let _left = self.left.rules();
+        let _right = self.right.rules();
         0
     }
 
@@ -245,6 +297,19 @@ impl Joint for ExplicitPair {
         let _distinct = self.symbols.symbols();
         let pairs = leads(alloc, &self.by_kids, kids)?;
         groups_at(alloc, &pairs, &self.steps, sets, store)
+    }
+
+    fn down_groups(
+        &mut self,
+        q: u32,
+        set: usize,
+        store: &MacroStore,
+    ) -> Result<Vec<DownGroup>, AllocError> {
+        let alloc = self.left.allocator();
+        let states = self.left.states().len() as u32;
+        let _right = self.right.rules();
+        let _distinct = self.symbols.symbols();
+        down_groups_at(alloc, &self.clusters, states, q, store.row(set))
     }
 
     fn joined(&self) -> Result<Explicit, AllocError> {

@@ -3,6 +3,7 @@
 ghost use Rattle.std.specs.Prelude.{◌≡◌, ◌≢◌, ◌<◌, ◌≤◌, ◌+◌, ℕ, List, All, AllPairs, IfOk, length, map, ◌++◌, codes};
 ghost use Rattle.std.specs.List.{AllZip};
 ghost use Rattle.tree_definitions.specs.Joint.{right, joint_symbols};
+ghost use Rattle.tree_definitions.specs.Name.{IsName};
 ghost use Rattle.tree_definitions.specs.Relation.{IsAt};
 ghost use Rattle.tree_definitions.specs.Union.{IsUnion};
 ghost use Rattle.ta_model.specs.Pairing.{ArePaired};
@@ -14,14 +15,12 @@ use ta_model::{Listed, Name, Rule, Symbol};
 
 /// The name with the mark behind it.
 fn marked_name(alloc: Global, name: &Name, mark: &[u8]) -> Result<Name, AllocError>
+    requires { IsName (name.now ++ mark.now) }
     ensures { IfOk result (λ n. n ≡ name.now ++ mark.now) }
 {
     let mut bytes = Vec::from_slice(alloc, name.bytes())?;
     bytes.extend_from_slice(mark)?;
-    match Name::of(alloc, &bytes) {
-        Ok(name) => Ok(name),
-        Err(_) => Err(AllocError),
-    }
+    Name::known(alloc, &bytes)
 }
 
 /// Appends the names with the mark behind each.
@@ -31,6 +30,7 @@ fn add_marked(
     mark: &[u8],
     all: &mut Vec<Name>,
 ) -> Result<(), AllocError>
+    requires { All (λ n. IsName (n ++ mark.now)) names.now }
     ensures { IfOk result (λ _. all.new.items ≡ all.old.items ++ marked mark.now names.now) }
 {
     for name in names {
@@ -73,10 +73,7 @@ pub fn union_of(
 {
     let alloc = left.allocator();
     let states = left.states().len() as u32;
-    let name = match Name::of(alloc, b"union") {
-        Ok(name) => name,
-        Err(_) => return Err(AllocError),
-    };
+    let name = Name::known(alloc, b"union")?;
     let joint = Vec::from_clones(alloc, symbols)?;
     let mut names = Vec::new(alloc);
     add_marked(alloc, left.states(), b"_1", &mut names)?;

@@ -1,5 +1,5 @@
 -- The canonical form of a listed automaton is one.
-use Rattle.std.proofs.Common.{◌≡◌, ℕ, ◌<◌, ◌≤◌, List, length, get_or, sym, subst, arith}
+use Rattle.std.proofs.Common.{◌≡◌, ◌≤◌, List, length, get_or, sym, subst, arith}
 use Rattle.std.specs.Prelude.{◌≢◌, All, AllPairs, Contains}
 use Rattle.std.specs.List.Sorted.{IsStrictlySortedBy}
 use Rattle.std.specs.Ordering.{nat_cmp}
@@ -9,10 +9,10 @@ use Rattle.std.specs.declared.cmp.Ordering.TheVariants.{Less}
 use Rattle.std.proofs.lemmas.Cmp.{nat_cmp_total}
 use Rattle.std.proofs.lemmas.List.Elements.{All-contains}
 use Rattle.std.proofs.lemmas.Option.{slice_get-get_or}
-use Rattle.tree_definitions.specs.Automaton.{Automaton, Rule, FitsRule, IsAutomaton, IsState}
+use Rattle.tree_definitions.specs.Automaton.{Automaton, FitsRule, IsAutomaton, IsState}
 use Rattle.tree_definitions.specs.Canonical.{canon, rule_cmp}
 use Rattle.tree_definitions.specs.Relation.{IsAt}
-use Rattle.tree_definitions.proofs.CanonicalForms.{rules_total, still_fits}
+use Rattle.tree_definitions.proofs.CanonicalForms.{rules_total, still_fits, still_form}
 use Rattle.tree_definitions.proofs.Counting.{count_keys}
 use Rattle.tree_definitions.proofs.InOrder.{canon_finals, canon_rules, in_order_rises}
 use Rattle.tree_definitions.proofs.Members.{at_within, contains_at}
@@ -53,7 +53,9 @@ module _ (A : Automaton) (listed : IsListed A) where
       rules = rules_apart;
       final_states = all_of (IsState (canon A)) (canon A).finals (λ q m. All-contains (IsState A) A.finals q fits.final_states ((canon_finals A q).0 m));
       fitting = all_of (FitsRule (canon A)) (canon A).rules (λ r m. still_fits A (canon A).finals (canon A).rules r (All-contains (FitsRule A) A.rules r fits.fitting ((canon_rules A r).0 m)));
+      form = still_form A (canon A).finals (canon A).rules (λ r. let m = canon_rules A r in (m.1, m.0)) fits.form;
     };
+    narrow = listed.narrow;
     name = listed.name;
     symbol_names = listed.symbol_names;
     state_names = listed.state_names;

@@ -1,12 +1,10 @@
 -- Which splits of pairs fit.
-use Rattle.std.proofs.Common.{◌≡◌, ◌<◌, ◌≤◌, ◌+◌, ℕ, List, [], ◌∷◌, length, get_or, inl, inr, refl, sym, ap, ◌∙◌, subst, arith}
-use Rattle.std.specs.Prelude.{All, ◌↔◌, map, unwrap_or}
-use Rattle.std.proofs.lemmas.Bool.{cases_lt}
+use Rattle.std.proofs.Common.{◌≡◌, ◌<◌, ℕ, List, [], ◌∷◌, length, get_or, sym, ap, ◌∙◌, subst, arith}
+use Rattle.std.specs.Prelude.{All, ◌↔◌}
 use Rattle.std.proofs.lemmas.Option.{slice_get_within}
 use Rattle.tree_definitions.specs.Automaton.{Automaton, Rule}
-use Rattle.tree_definitions.specs.Canonical.{canon}
 use Rattle.tree_definitions.specs.Cover.{Pair}
-use Rattle.tree_definitions.specs.DownTrail.{DownEntry, HasPair, IsPairOf, Root, Child, Split}
+use Rattle.tree_definitions.specs.DownTrail.{DownEntry, IsPairOf, Root, Child, Split}
 use Rattle.tree_definitions.specs.Relation.{IsAt}
 use Rattle.tree_definitions.proofs.Members.{at_unique}
 use Rattle.listed_pairs.specs.DownEntries.{DividesBy, FitsDownEntry, SplitsAt}

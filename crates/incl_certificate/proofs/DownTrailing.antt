@@ -1,5 +1,5 @@
 -- Entries of a downward trail that fit can be printed.
-use Rattle.std.proofs.Common.{◌≡◌, ◌<◌, ℕ, List, length, get_or}
+use Rattle.std.proofs.Common.{ℕ, List, get_or}
 use Rattle.std.specs.Prelude.{All}
 use Rattle.std.proofs.lemmas.Option.{slice_get-get_or, slice_get_within}
 use Rattle.tree_definitions.specs.Automaton.{Automaton}

@@ -13,3 +13,4 @@ pub mod RuleRanks
 pub mod Divided
 pub mod DownTrailing
 pub mod CanonListed
+pub mod Decided

@@ -1,11 +1,12 @@
 -- What the conditions of a trail ask of entries that fit.
 use Rattle.std.proofs.Common.{◌≡◌, ◌<◌, ◌≤◌, ℕ, ◌+◌, List, length, get_or, inl, inr, subst, sym, arith}
 use Rattle.std.specs.Prelude.{All}
-use Rattle.std.proofs.lemmas.Bool.{cases_Bool, cases_lt, lt-ltb, le-ltb}
+use Rattle.std.proofs.lemmas.Bool.{cases_lt}
 use Rattle.std.proofs.lemmas.Option.{slice_get-get_or, slice_get_within}
-use Rattle.tree_definitions.specs.Automaton.{Automaton}
+use Rattle.tree_definitions.specs.Automaton.{Automaton, IsNarrow}
 use Rattle.tree_definitions.specs.Relation.{Matrix, IsAt}
 use Rattle.tree_definitions.specs.UpTrail.{UpEntry}
+use Rattle.tree_definitions.proofs.Listing.{at_number}
 use Rattle.certificate_kinds.specs.Fitting.{AreUpEntries, FitsUpEntry}
 use Rattle.tree_definitions.specs.Cover.{FitsPair}
 use Rattle.listed_pairs.specs.Within.{IsWithin}
@@ -16,12 +17,16 @@ use Rattle.certificate_kinds.specs.Certificates.{FitsUpTrail}
 each : {X : Type 0} (P : X → Type 0) (xs : List X) → ((k : ℕ) (x : X) → IsAt xs k x → P x) → All P xs
 each P xs h k d l = h k (get_or xs k d) (slice_get-get_or xs k d l)
 
+-- in a narrow automaton the symbol of an entry that fits is one of its list
+pub symbol_within : (A B : Automaton) → IsNarrow A → (k : ℕ) (entry : UpEntry) → FitsUpEntry A B k entry → entry.symbol < length A.symbols
+symbol_within A B narrow k entry fits = slice_get_within A.symbols entry.symbol fits.symbol.0 (at_number A.bits A.symbols entry.symbol fits.symbol.0 narrow fits.symbol.1)
+
 module _ (A B : Automaton) (budget : ℕ) (entries : List UpEntry) (fits : AreUpEntries A B budget entries) where
   pub entries_fit : FitEntries A B entries
   entries_fit = each (λ e. FitsPair A B e.pair) entries (λ k entry at. (fits.fitting k entry at).pair)
 
-  pub entries_labelled : All (λ e. e.symbol < length A.symbols) entries
-  entries_labelled = each (λ e. e.symbol < length A.symbols) entries (λ k entry at. let f = fits.fitting k entry at in slice_get_within A.symbols entry.symbol f.symbol.0 f.symbol.1)
+  pub entries_labelled : IsNarrow A → All (λ e. e.symbol < length A.symbols) entries
+  entries_labelled narrow = each (λ e. e.symbol < length A.symbols) entries (λ k entry at. symbol_within A B narrow k entry (fits.fitting k entry at))
 
   pub entries_named : NameEarlier entries
   entries_named k entry at = (fits.fitting k entry at).earlier

@@ -8,7 +8,6 @@ use Rattle.tree_definitions.specs.Automaton.{Automaton}
 use Rattle.tree_definitions.specs.Relation.{Matrix}
 use Rattle.tree_definitions.specs.Canonical.{canon}
 use Rattle.tree_definitions.specs.DownTrail.{DownEntry}
-use Rattle.tree_definitions.specs.UpTrail.{UpEntry}
 use Rattle.listed_pairs.specs.DownEntries.{AreDownEntries, entries_of}
 use Rattle.certificate_lines.specs.Budgets.{Budgeted}
 use Rattle.down_entry_lines.specs.Entries.{down_entries_text}

@@ -14,10 +14,10 @@ use Rattle.tree_definitions.specs.UpCert.{UpCert, AreListed, IsCoveredUp as IsSt
 use Rattle.tree_definitions.specs.UpTrail.{UpEntry, IsUpStep, UpTrail as IsUpTrail}
 use Rattle.tree_definitions.specs.Witness.{NoCert}
 use Rattle.listed_pairs.specs.DownEntries.{entries_of}
-use Rattle.listed_pairs.specs.Places.{IsFirst, IsNth}
+use Rattle.listed_pairs.specs.Places.{IsFirst, IsNth, IsNthAt}
 use Rattle.up_conditions.specs.Covering.{IsUncoveredLeaf, IsUncoveredStep}
 use Rattle.up_conditions.specs.Listed.{IsCovered as IsCoveredUp}
-use Rattle.up_conditions.specs.Trailing.{IsNthAt, RejectsEntry, IsCoveredEntry}
+use Rattle.up_conditions.specs.Trailing.{RejectsEntry, IsCoveredEntry}
 use Rattle.down_conditions.specs.Covering.{IsCovered as IsCoveredPair}
 use Rattle.down_conditions.specs.Refuting.{IsRefuted, IsSplitCovered}
 use Rattle.down_trails.specs.Keys.{RepeatsEntry}
@@ -63,17 +63,17 @@ AreStepsCovered A B left right pairs =
     → (sets : List Row) → AreListed pairs (q ∷ qs) sets → IsStepCovered (Relates left) (Relates right) pairs p (Post B a sets)
 
 -- the condition with this number is the least of an upward certificate that fails, at this place. Rules are those of A's canonical form.
--- 1: both relations are upward simulations; 2: no pair rejects; 3: the step of each rule without children is covered; 4: so is each step of each other rule; 5: no pair is covered by another one
+-- 1: both relations are upward simulations; 2: no pair rejects; 3: the step of each rule without children is covered; 4: so is each step of each other rule; 5: no pair is covered by the pair at another place
 pub data FailsUp (A B : Automaton) (left right : Matrix) (pairs : List Pair) : ℕ → ℕ → Type 0 where
   LeftFails : ¬ IsUp A (Relates left) → FailsUp A B left right pairs 1 1
   RightFails : IsUp A (Relates left) → ¬ IsUp B (Relates right) → FailsUp A B left right pairs 1 2
   Rejecting : (n : ℕ) → AreUp A B left right → IsFirst (IsNth pairs (Rejects A B)) n → FailsUp A B left right pairs 2 n
   LeafFails : (n : ℕ) → AreUp A B left right → NoneRejects A B pairs
-      → IsFirst (IsNth (canon A).rules (IsUncoveredLeaf A.symbols B (Relates left) (Relates right) pairs)) n → FailsUp A B left right pairs 3 n
+      → IsFirst (IsNth (canon A).rules (IsUncoveredLeaf (canon A) B (Relates left) (Relates right) pairs)) n → FailsUp A B left right pairs 3 n
   StepFails : (n : ℕ) → AreUp A B left right → NoneRejects A B pairs → AreLeavesCovered A B left right pairs
-      → IsFirst (IsNth (canon A).rules (IsUncoveredStep A.symbols B (Relates left) (Relates right) pairs)) n → FailsUp A B left right pairs 4 n
+      → IsFirst (IsNth (canon A).rules (IsUncoveredStep (canon A) B (Relates left) (Relates right) pairs)) n → FailsUp A B left right pairs 4 n
   CoveredUp : (n : ℕ) → AreUp A B left right → NoneRejects A B pairs → AreLeavesCovered A B left right pairs → AreStepsCovered A B left right pairs
-      → IsFirst (IsNth pairs (IsCoveredUp (Relates left) (Relates right) pairs)) n → FailsUp A B left right pairs 5 n
+      → IsFirst (IsNthAt pairs (IsCoveredUp (Relates left) (Relates right) pairs)) n → FailsUp A B left right pairs 5 n
 
 -- the final state of A is covered with the final states of B
 abbrev pub IsFinalCovered : Automaton → Automaton → Matrix → List Pair → ℕ → Type 0
@@ -87,7 +87,7 @@ abbrev pub AreChoicesCovered : Automaton → Automaton → Matrix → List Pair 
 AreChoicesCovered A B both pairs = (pair : Pair) → Contains pairs pair → IsSplitCovered A B (Relates both) pairs pair
 
 -- the same for a downward certificate. Final states are those of A in order of place.
--- 1: the relation is a downward simulation of both together; 2: each final state is covered with those of B; 3: no choice of places refutes a pair; 5: no pair is covered by another one
+-- 1: the relation is a downward simulation of both together; 2: each final state is covered with those of B; 3: no choice of places refutes a pair; 5: no pair is covered by the pair at another place
 pub data FailsDown (A B : Automaton) (both : Matrix) (pairs : List Pair) : ℕ → ℕ → Type 0 where
   BothFails : ¬ IsDown (JointRule A B) (Relates both) → FailsDown A B both pairs 1 1
   FinalFails : (n : ℕ) → IsDown (JointRule A B) (Relates both)
@@ -95,7 +95,7 @@ pub data FailsDown (A B : Automaton) (both : Matrix) (pairs : List Pair) : ℕ �
   ChoiceFails : (n : ℕ) → IsDown (JointRule A B) (Relates both) → AreFinalsCovered A B both pairs
       → IsFirst (IsNth pairs (IsRefuted A B (Relates both) pairs)) n → FailsDown A B both pairs 3 n
   CoveredDown : (n : ℕ) → IsDown (JointRule A B) (Relates both) → AreFinalsCovered A B both pairs → AreChoicesCovered A B both pairs
-      → IsFirst (IsNth pairs (IsCoveredPair A (Relates both) pairs)) n → FailsDown A B both pairs 5 n
+      → IsFirst (IsNthAt pairs (IsCoveredPair A (Relates both) pairs)) n → FailsDown A B both pairs 5 n
 
 -- each entry's pair is a step from those of earlier entries
 abbrev pub AreUpSteps : Automaton → Automaton → List UpEntry → Type 0

@@ -15,7 +15,6 @@ use Rattle.witness_trees.specs.Judged.{Verdict, Is, BadAt, UnknownAt, judged, th
 use Rattle.certificate_lines.specs.Lines.{Piece, stands_at}
 use Rattle.certificate_lines.specs.Pairs.{pairs_in, pairs_text}
 use Rattle.certificate_lines.specs.Relations.{relation_in, relation_text}
-use Rattle.certificate_lines.specs.Budgets.{Budgeted}
 use Rattle.down_entry_lines.specs.Entries.{down_entries_in, down_entries_text}
 use Rattle.entry_lines.specs.Entries.{up_entries_in, up_entries_text}
 use Rattle.listed_pairs.specs.DownEntries.{entries_of}

@@ -22,9 +22,9 @@ mod upward;
 pub use certificate::fits;
 pub use certificate_kinds::Certificate;
 pub use checking::{CheckError, Verdict, check};
-pub use laws::printed_certificates_are_read_back;
+pub use laws::{
+    a_certificate_is_accepted_or_refused, one_certificate_has_the_text,
+    printed_certificates_are_read_back,
+};
 pub use printing::print;
 pub use reading::{CertError, read};
-
-#[cfg(test)]
-mod tests;

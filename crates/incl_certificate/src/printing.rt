@@ -85,6 +85,8 @@ fn print_up_trail(
     requires { AreUpEntries a.now b.now budget entries.now }
     ensures { IfOk result (λ text. text.items ≡ up_trail_text a.now b.now left.now right.now budget entries.now) }
 {
+    // The call tells the proof that the automaton is narrow.
+    let _symbols = a.symbols();
     let mut text = Vec::new(alloc);
     text.extend_from_slice(b"undecided\n")?;
     text.extend_from_slice(b"certificate 1 up-trail\n")?;

@@ -58,6 +58,8 @@ pub(crate) fn check_up_trail(
     ensures holds { OnOk result (UpTrail a.now b.now (Holds left.now) (Holds right.now) budget entries.now) }
     ensures fails { (condition place : ℕ) → IsErrOf result (CheckError.Fails condition place) → FailsUpTrail a.now b.now left.now right.now entries.now condition place }
 {
+    // The call tells the proof that the automaton is narrow.
+    let _symbols = a.symbols();
     check_relations(alloc, a, b, left, right, budget, entries)?;
     if let Some(place) = first_wrong_step(alloc, a, b, entries)? {
         return Err(CheckError::Fails {

@@ -6,6 +6,10 @@ use Rattle.tree_definitions.specs.Relation.{Places, IsAt}
 abbrev pub IsNth : {X : Type 0} → List X → (X → Type 0) → Places
 IsNth {X} xs Kind n = (i : ℕ) × (x : X) × (n ≡ suc i) × IsAt xs i x × Kind x
 
+-- the n-th item of the list, counted from 1, is of this kind at its place, counted from 0
+abbrev pub IsNthAt : {X : Type 0} → List X → (ℕ → X → Type 0) → Places
+IsNthAt {X} xs Kind n = (i : ℕ) × (x : X) × (n ≡ suc i) × IsAt xs i x × Kind i x
+
 -- n is of this kind, and nothing before it
 pub record IsFirst (Kind : ℕ → Type 0) (n : ℕ) : Type 0 where
   pub here : Kind n

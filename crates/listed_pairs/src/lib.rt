@@ -10,6 +10,3 @@ mod pair;
 pub use entry::{DownEntry, UpEntry};
 pub use order::{are_rising, pair_cmp};
 pub use pair::Pair;
-
-#[cfg(test)]
-mod tests;

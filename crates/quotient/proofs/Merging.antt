@@ -1,5 +1,5 @@
 -- The automaton with the states of each class merged.
-use Rattle.std.proofs.Common.{◌≡◌, ◌≢◌, ℕ, ◌+◌, ◌<◌, ◌≤◌, List, [], ◌∷◌, length, get_or, map, refl, sym, ap, subst, ◌∙◌, arith, ⊎_elim}
+use Rattle.std.proofs.Common.{◌≡◌, ◌≢◌, inl, ℕ, ◌+◌, ◌<◌, ◌≤◌, List, [], ◌∷◌, length, get_or, map, refl, sym, ap, subst, ◌∙◌, arith, ⊎_elim}
 use Rattle.std.specs.Prelude.{All, AllPairs, Contains, slice_index}
 use Rattle.std.specs.List.{AllZip}
 use Rattle.std.proofs.lemmas.Bool.{cases_eq}
@@ -7,10 +7,11 @@ use Rattle.std.proofs.lemmas.List.{length-map}
 use Rattle.std.proofs.lemmas.List.Elements.{All-head, All-tail, All-contains}
 use Rattle.std.proofs.lemmas.Option.{slice_get_within}
 use Rattle.tree_definitions.specs.Tree.{Symbol}
-use Rattle.tree_definitions.specs.Automaton.{Automaton, Rule, IsRule, IsLabel, HasRule, IsState, IsAutomaton, FitsRule}
+use Rattle.tree_definitions.specs.Automaton.{Automaton, Rule, IsNarrow, HasRule, IsState, IsAutomaton, FitsRule}
 use Rattle.tree_definitions.specs.Name.{IsName}
 use Rattle.tree_definitions.specs.Quotient.{IsFirst, IsInClass, CollapsesTo}
 use Rattle.tree_definitions.specs.Relation.{Relation, IsAt}
+use Rattle.tree_definitions.proofs.Listing.{label_at, at_label, rule_parts, rule_of_line as line_rule}
 use Rattle.tree_definitions.proofs.Members.{contains_at, place_of}
 use Rattle.ta_model.specs.Listing.{IsListed}
 use Rattle.quotient.specs.Grouping.{IsTransitive, IsLeader, AreLeaders, IsNumbering, HasOnce, merged}
@@ -18,23 +19,20 @@ use Rattle.quotient.proofs.ClassSteps.{one_leader, lead_themselves}
 use Rattle.quotient.proofs.Lists.{apart_by_places, one_place_of, no_more, all_from, image_in, image_out, zip_length, zip_at}
 
 -- automata with the same lists
-pub same_lists : (A B : Automaton) → A.name ≡ B.name → A.symbols ≡ B.symbols → A.states ≡ B.states → A.finals ≡ B.finals → A.rules ≡ B.rules → A ≡ B
-same_lists A B n s q f r =
-    let by_name : List ℕ → Automaton = λ v. record { name = v; symbols = A.symbols; states = A.states; finals = A.finals; rules = A.rules } in
-    let by_symbols : List Symbol → Automaton = λ v. record { name = B.name; symbols = v; states = A.states; finals = A.finals; rules = A.rules } in
-    let by_states : List (List ℕ) → Automaton = λ v. record { name = B.name; symbols = B.symbols; states = v; finals = A.finals; rules = A.rules } in
-    let by_finals : List ℕ → Automaton = λ v. record { name = B.name; symbols = B.symbols; states = B.states; finals = v; rules = A.rules } in
-    let by_rules : List Rule → Automaton = λ v. record { name = B.name; symbols = B.symbols; states = B.states; finals = B.finals; rules = v } in
-    ap by_name n ∙ ap by_symbols s ∙ ap by_states q ∙ ap by_finals f ∙ ap by_rules r
+pub same_lists : (A B : Automaton) → A.bits ≡ B.bits → A.name ≡ B.name → A.symbols ≡ B.symbols → A.states ≡ B.states → A.finals ≡ B.finals → A.rules ≡ B.rules → A ≡ B
+same_lists A B b n s q f r = λ i. record { bits = b i; name = n i; symbols = s i; states = q i; finals = f i; rules = r i }
 
 -- a rule is a line of the list, with the place of its symbol
-line_of_rule : (A : Automaton) (a : Symbol) (kids : List ℕ) (q : ℕ) → HasRule A a kids q → (k : ℕ) × IsAt A.symbols k a × Contains A.rules (record { symbol = k; kids = kids; parent = q })
-unfolding IsRule IsLabel
-line_of_rule A a kids q h = (h.1.0, h.1.1, contains_at A.rules h.0 (record { symbol = h.1.0; kids = kids; parent = q }) h.1.2)
+line_of_rule : (A : Automaton) → IsNarrow A → (a : Symbol) (kids : List ℕ) (q : ℕ) → HasRule A a kids q → (k : ℕ) × IsAt A.symbols k a × Contains A.rules (record { symbol = k; kids = kids; parent = q })
+line_of_rule A narrow a kids q h =
+    let p = rule_parts A h.0 a kids q h.1 in
+    (p.0, at_label A p.0 a narrow p.1, contains_at A.rules h.0 (record { symbol = p.0; kids = kids; parent = q }) p.2)
 
-rule_of_line : (A : Automaton) (k : ℕ) (a : Symbol) (kids : List ℕ) (q : ℕ) → IsAt A.symbols k a → Contains A.rules (record { symbol = k; kids = kids; parent = q }) → HasRule A a kids q
-unfolding IsRule IsLabel
-rule_of_line A k a kids q at m = let p = place_of A.rules (record { symbol = k; kids = kids; parent = q }) m in (p.0, (k, at, p.1))
+rule_of_line : (A : Automaton) → IsNarrow A → (k : ℕ) (a : Symbol) (kids : List ℕ) (q : ℕ) → IsAt A.symbols k a → Contains A.rules (record { symbol = k; kids = kids; parent = q }) → HasRule A a kids q
+rule_of_line A narrow k a kids q at m =
+    let line : Rule = record { symbol = k; kids = kids; parent = q } in
+    let p = place_of A.rules line m in
+    (p.0, line_rule A p.0 line a p.1 (label_at A k a narrow at))
 
 same_rule : (r s : Rule) → r.symbol ≡ s.symbol → r.kids ≡ s.kids → r.parent ≡ s.parent → r ≡ s
 same_rule r s a k p =
@@ -47,7 +45,7 @@ pub fits_rule : (A : Automaton) → IsAutomaton A → (r : Rule) → Contains A.
 fits_rule A fits r m = All-contains (FitsRule A) A.rules r fits.fitting m
 
 abbrev pub merged_with : Automaton → List (List ℕ) → List ℕ → List Rule → Automaton
-merged_with A names fs rs = record { name = A.name; symbols = A.symbols; states = names; finals = fs; rules = rs }
+merged_with A names fs rs = record { bits = 0; name = A.name; symbols = A.symbols; states = names; finals = fs; rules = rs }
 
 module _ (A : Automaton) (listed : IsListed A) (D : Relation) (joined : IsTransitive D) (leaders firsts classes : List ℕ) (names : List (List ℕ)) (fs : List ℕ) (rs : List Rule)
     (led : AreLeaders D (length A.states) leaders) (nb : IsNumbering leaders firsts classes (length A.states)) (named : AllZip (IsAt A.states) firsts names)
@@ -116,7 +114,9 @@ module _ (A : Automaton) (listed : IsListed A) (D : Relation) (joined : IsTransi
       fitting = all_from (FitsRule (merged_with A names fs rs)) rs (λ s m.
           let o = image_out (merged classes) A.rules s ((rules.members s).0 m) in
           subst (FitsRule (merged_with A names fs rs)) o.2 (merged_fits o.0 o.1));
+      form = inl refl;
     };
+    narrow = refl;
     name = listed.name;
     symbol_names = listed.symbol_names;
     state_names = all_from IsName names (λ y m.
@@ -144,7 +144,7 @@ module _ (A : Automaton) (listed : IsListed A) (D : Relation) (joined : IsTransi
   rules_out : (a : Symbol) (kids : List ℕ) (i : ℕ) → HasRule (merged_with A names fs rs) a kids i
       → (qs : List ℕ) × (q : ℕ) × AllZip (IsInClass D firsts) kids qs × IsInClass D firsts i q × HasRule A a qs q
   rules_out a kids i h =
-      let o = line_of_rule (merged_with A names fs rs) a kids i h in
+      let o = line_of_rule (merged_with A names fs rs) refl a kids i h in
       let line : Rule = record { symbol = o.0; kids = kids; parent = i } in
       let r = image_out (merged classes) A.rules line ((rules.members line).0 o.2) in
       let old = r.0 in
@@ -154,18 +154,18 @@ module _ (A : Automaton) (listed : IsListed A) (D : Relation) (joined : IsTransi
         old.parent,
         subst (λ l. AllZip (IsInClass D firsts) l old.kids) (ap (λ (v : Rule). v.kids) r.2) (zip_kids old.kids fits.kids),
         subst (λ k. IsInClass D firsts k old.parent) (ap (λ (v : Rule). v.parent) r.2) (stands old.parent fits.parent),
-        rule_of_line A old.symbol a old.kids old.parent (subst (λ k. IsAt A.symbols k a) (sym symbol) o.1) r.1,
+        rule_of_line A listed.narrow old.symbol a old.kids old.parent (subst (λ k. IsAt A.symbols k a) (sym symbol) o.1) r.1,
       )
 
   rules_in : (a : Symbol) (kids : List ℕ) (i : ℕ) → (qs : List ℕ) × (q : ℕ) × AllZip (IsInClass D firsts) kids qs × IsInClass D firsts i q × HasRule A a qs q
       → HasRule (merged_with A names fs rs) a kids i
   rules_in a kids i h =
-      let o = line_of_rule A a h.0 h.1 h.4 in
+      let o = line_of_rule A listed.narrow a h.0 h.1 h.4 in
       let old : Rule = record { symbol = o.0; kids = h.0; parent = h.1 } in
       let line : Rule = record { symbol = o.0; kids = kids; parent = i } in
       let fits = fits_rule A listed.automaton old o.2 in
       let same : merged classes old ≡ line = same_rule (merged classes old) line refl (sym (kids_are kids h.0 fits.kids h.2)) (sym (class_is i h.1 fits.parent h.3)) in
-      rule_of_line (merged_with A names fs rs) o.0 a kids i o.1
+      rule_of_line (merged_with A names fs rs) refl o.0 a kids i o.1
       ((rules.members line).1 (subst (Contains (map (merged classes) A.rules)) same (image_in (merged classes) A.rules old o.2)))
 
   first_out : (q : ℕ) → Contains firsts q → IsFirst A D q
@@ -189,8 +189,9 @@ module _ (A : Automaton) (listed : IsListed A) (D : Relation) (joined : IsTransi
 
   pub merged_collapses : CollapsesTo A (merged_with A names fs rs) D firsts
   merged_collapses = record {
+    bits = sym listed.narrow;
     name = refl;
-    symbols = refl;
+    symbols = λ n. refl;
     rising = λ k lt. nb.rising k (k + 1) 0 (omega arith) lt;
     each_first = λ q. (first_out q, first_in q);
     states = named;
@@ -200,4 +201,5 @@ module _ (A : Automaton) (listed : IsListed A) (D : Relation) (joined : IsTransi
       λ h. (finals.members i).1 (subst (Contains (map (slice_index classes) A.finals)) (sym (class_is i h.0 (final_state h.0 h.2) h.1)) (image_in (slice_index classes) A.finals h.0 h.2)),
     );
     rules = λ a kids i. (rules_out a kids i, rules_in a kids i);
+    fitting = merged_listed.automaton;
   }

@@ -20,6 +20,7 @@ pub restriction_trims : (A T : Automaton) (row : List Bool) → ((q : ℕ) → H
 restriction_trims A T row exact (kept, r) = (
   kept,
   record {
+    bits = r.bits;
     name = r.name;
     symbols = r.symbols;
     rising = r.rising;
@@ -27,6 +28,7 @@ restriction_trims A T row exact (kept, r) = (
     states = r.states;
     finals = r.finals;
     rules = r.rules;
+    fitting = r.fitting;
   },
 )
 
@@ -37,6 +39,7 @@ greatest_joined T m greatest q r s h g =
 -- what the canonical form collapses to, the automaton does
 collapse_out : (T Q : Automaton) (D : Relation) (firsts : List ℕ) → CollapsesTo (canon T) Q D firsts → CollapsesTo T Q D firsts
 collapse_out T Q D firsts c = record {
+  bits = c.bits;
   name = c.name;
   symbols = c.symbols;
   rising = c.rising;
@@ -53,6 +56,7 @@ collapse_out T Q D firsts c = record {
     λ h. let g = (c.rules a kids i).0 h in (g.0, g.1, g.2, g.3, rule_out T a g.0 g.1 g.4),
     λ h. (c.rules a kids i).1 (h.0, h.1, h.2, h.3, rule_in T a h.0 h.1 h.4),
   );
+  fitting = c.fitting;
 }
 
 pub quotient_of : (A T L C : Automaton) (m : Matrix) → IsTrim A T → IsGreatestDown T m → L ≡ canon T → IsCollapse L (Holds m) C → IsCanonicalQuotient A C

@@ -81,10 +81,8 @@ impl Alphabet {
         ensures full { IsErrOf result AlphabetError.Full → ⊥ }
     {
         let mut alphabet = Alphabet::new(alloc);
-        match alphabet.intern_each(alloc, symbols) {
-            Ok(_places) => Ok(alphabet),
-            Err(_) => Err(AlphabetError::Memory),
-        }
+        alphabet.intern_each(alloc, symbols)?;
+        Ok(alphabet)
     }
 
     /// The number of symbols.

@@ -7,6 +7,3 @@ mod fingerprints;
 
 pub use by_parent::{ByParent, Keyed};
 pub use fingerprints::may_repeat;
-
-#[cfg(test)]
-mod tests;

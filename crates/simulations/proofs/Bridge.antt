@@ -1,33 +1,20 @@
 -- From lists of rules to automata.
-use Rattle.std.proofs.Common.{◌≡◌, ◌↔◌, inl, inr, ℕ, ◌++◌, ◌∷◌, List, length, set, refl, sym, ◌∙◌, subst}
-use Rattle.std.proofs.lemmas.Option.{slice_get_within, get_or_from_slice_get}
-use Rattle.std.proofs.lemmas.Bool.{cases_order}
+use Rattle.std.proofs.Common.{◌↔◌, ℕ, ◌++◌, ◌∷◌, List, length, set, refl, sym, subst}
 use Rattle.tree_definitions.specs.Tree.{Symbol}
-use Rattle.tree_definitions.specs.Automaton.{Automaton, Rules, IsLabel, IsRule, HasRule, IsFinal, IsAutomaton}
+use Rattle.tree_definitions.specs.Automaton.{Automaton, Rules, IsLabel, IsRule, IsNarrow, HasRule, IsFinal, IsAutomaton}
 use Rattle.tree_definitions.specs.Canonical.{canon}
 use Rattle.tree_definitions.specs.Quotient.{IsGreatestDown}
 use Rattle.tree_definitions.specs.Relation.{Relation, Matrix, IsAt, Holds}
 use Rattle.tree_definitions.specs.Simulation.{IsDown, IsUp, GreatestDown, GreatestUp}
 use Rattle.tree_definitions.proofs.Greatest.{greatest_is_down, greatest_transitive, greatest_is_up, greatest_up_transitive, AllZip-weaker}
-use Rattle.tree_definitions.proofs.InOrder.{canon_finals}
+use Rattle.tree_definitions.proofs.InOrder.{canon_finals, rule_in, rule_out}
 use Rattle.tree_definitions.proofs.Places.{exchanges_by_place, places_by_exchange}
+use Rattle.tree_definitions.proofs.Standing.{label_once}
 use Rattle.trim_ops.proofs.Bridge.{has_line}
-use Rattle.trim_ops.proofs.SameRules.{rule_in, rule_out}
 use Rattle.simulations.specs.DownCases.{IsDownBy, GreatestBy}
 use Rattle.simulations.specs.Relations.{IsGreatestUp}
 use Rattle.child_exchange.specs.Exchanging.{IsUpBy}
 use Rattle.simulations.specs.UpCases.{KeepsFinals, GreatestUpBy}
-
--- one symbol stands at one place
-label_once : (A : Automaton) → IsAutomaton A → (j k : ℕ) (a : Symbol) → IsLabel A j a → IsLabel A k a → j ≡ k
-unfolding IsLabel
-label_once A fits j k a jat kat = elim (cases_order j k) [
-  | inl e ↦ e
-  | inr o ↦ elim o [
-    | inl l ↦ absurd (fits.symbols j k a l (slice_get_within A.symbols k a kat) (get_or_from_slice_get A.symbols j a a jat ∙ sym (get_or_from_slice_get A.symbols k a a kat)))
-    | inr l ↦ absurd (fits.symbols k j a l (slice_get_within A.symbols j a jat) (get_or_from_slice_get A.symbols k a a kat ∙ sym (get_or_from_slice_get A.symbols j a a jat)))
-  ]
-]
 
 down_from_lines : (A : Automaton) (R : Relation) → IsDownBy A.rules R → IsDown (HasRule A) R
 unfolding IsRule
@@ -38,19 +25,19 @@ down_from_lines A R d q r h a kids (i, (k, label, at)) =
     subst (λ p. IsAt A.rules m.0 (record { symbol = over.symbol; kids = over.kids; parent = p })) m.4 m.2 in
     (over.kids, (m.0, (over.symbol, subst (λ s. IsLabel A s a) (sym m.3) label, place)), m.5)
 
-lines_from_down : (A : Automaton) → IsAutomaton A → (R : Relation) → IsDown (HasRule A) R → IsDownBy A.rules R
+lines_from_down : (A : Automaton) → IsAutomaton A → IsNarrow A → (R : Relation) → IsDown (HasRule A) R → IsDownBy A.rules R
 unfolding IsRule
-lines_from_down A fits R d i rule r at h =
+lines_from_down A fits narrow R d i rule r at h =
     let has = has_line A fits i rule at in
     let m = d rule.parent r h has.0 rule.kids has.2 in
     let line = m.1.1 in
-    (m.1.0, record { symbol = line.0; kids = m.0; parent = r }, line.2, label_once A fits line.0 rule.symbol has.0 line.1 has.1, refl, m.2)
+    (m.1.0, record { symbol = line.0; kids = m.0; parent = r }, line.2, label_once A fits narrow line.0 rule.symbol has.0 line.1 has.1, refl, m.2)
 
 -- the greatest downward simulation by lines is that by symbols
-pub greatest_by_lines : (A : Automaton) → IsAutomaton A → (q r : ℕ) → GreatestBy (length A.states) A.rules q r ↔ GreatestDown (length A.states) (HasRule A) q r
-greatest_by_lines A fits q r = (
+pub greatest_by_lines : (A : Automaton) → IsAutomaton A → IsNarrow A → (q r : ℕ) → GreatestBy (length A.states) A.rules q r ↔ GreatestDown (length A.states) (HasRule A) q r
+greatest_by_lines A fits narrow q r = (
   λ g. (g.0, g.1, down_from_lines A (Holds g.0) g.2, g.3),
-  λ g. (g.0, g.1, lines_from_down A fits (Holds g.0) g.2, g.3),
+  λ g. (g.0, g.1, lines_from_down A fits narrow (Holds g.0) g.2, g.3),
 )
 
 -- the rules of the two are the same
@@ -93,19 +80,19 @@ up_from_lines A m keeps up = record {
   rules = λ q r h. exchanges_by_place A (Holds m) q r (λ a kids parent p rule kat. exchange_of_line A (Holds m) up a kids parent p q r rule kat h);
 }
 
-lines_from_up : (A : Automaton) → IsAutomaton A → (R : Relation) → IsUp A R → IsUpBy A.rules R
+lines_from_up : (A : Automaton) → IsAutomaton A → IsNarrow A → (R : Relation) → IsUp A R → IsUpBy A.rules R
 unfolding IsRule
-lines_from_up A fits R up i rule p q r at kat h =
+lines_from_up A fits narrow R up i rule p q r at kat h =
     let has = has_line A fits i rule at in
     let m = places_by_exchange A R q r (up.rules q r h) has.0 rule.kids rule.parent p has.2 kat in
     let line = m.1.1 in
-    (m.1.0, record { symbol = line.0; kids = set rule.kids p r; parent = m.0 }, line.2, label_once A fits line.0 rule.symbol has.0 line.1 has.1, refl, m.2)
+    (m.1.0, record { symbol = line.0; kids = set rule.kids p r; parent = m.0 }, line.2, label_once A fits narrow line.0 rule.symbol has.0 line.1 has.1, refl, m.2)
 
 -- the greatest upward simulation by lines is that by symbols
-pub greatest_up_by_lines : (A : Automaton) → IsAutomaton A → (q r : ℕ) → GreatestUpBy (length A.states) A.finals A.rules q r ↔ GreatestUp A q r
-greatest_up_by_lines A fits q r = (
+pub greatest_up_by_lines : (A : Automaton) → IsAutomaton A → IsNarrow A → (q r : ℕ) → GreatestUpBy (length A.states) A.finals A.rules q r ↔ GreatestUp A q r
+greatest_up_by_lines A fits narrow q r = (
   λ g. (g.0, g.1, up_from_lines A g.0 g.2 g.3, g.4),
-  λ g. (g.0, g.1, g.2.finals, lines_from_up A fits (Holds g.0) g.2, g.3),
+  λ g. (g.0, g.1, g.2.finals, lines_from_up A fits narrow (Holds g.0) g.2, g.3),
 )
 
 -- the rules and the final states of the two are the same

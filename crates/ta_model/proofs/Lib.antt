@@ -1,2 +1,3 @@
 pub mod StillListed
 pub mod Interning
+pub mod Restricted

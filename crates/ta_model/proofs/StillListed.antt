@@ -9,6 +9,7 @@ use Rattle.ta_model.specs.Listing.{IsListed}
 pub still_listed : (A : Automaton) (fs : List ℕ) (rs : List Rule) → IsListed A → IsPermutation A.finals fs → IsPermutation A.rules rs → IsListed (record A { finals = fs; rules = rs })
 still_listed A fs rs h p q = record {
   automaton = still_automaton A fs rs h.automaton p q;
+  narrow = h.narrow;
   name = h.name;
   symbol_names = h.symbol_names;
   state_names = h.state_names;

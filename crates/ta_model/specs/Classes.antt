@@ -1,8 +1,8 @@
 -- What a table answers of the rules of an automaton.
 use Rattle.std.specs.Prelude.{◌≡◌, ◌≢◌, ◌↔◌, ℕ, List, length, AllPairs, Contains}
 use Rattle.tree_definitions.specs.Tree.{Symbol}
-use Rattle.tree_definitions.specs.Automaton.{Rules, Automaton, HasRule, IsLabel}
-use Rattle.tree_definitions.specs.Relation.{Row, Has, IsAt}
+use Rattle.tree_definitions.specs.Automaton.{Rules, Automaton, HasRule, IsNumber}
+use Rattle.tree_definitions.specs.Relation.{Row, Has}
 use Rattle.ta_model.specs.declared.table.Class.{Class}
 use Rattle.ta_model.specs.declared.table.UpClass.{UpClass}
 
@@ -25,10 +25,10 @@ pub record IsClassUnder (H : Rules) (q r : ℕ) (a : Symbol) (class : Class) : T
   pub second : AreAll (λ kids. H a kids r) class.second
 
 -- the classes of q and r: for each symbol under which q has a rule, and for no other
-pub record AreClasses (symbols : List Symbol) (H : Rules) (q r : ℕ) (classes : List Class) : Type 0 where
-  -- the symbol of a class is one under which q has a rule
+pub record AreClasses (bits : ℕ) (symbols : List Symbol) (H : Rules) (q r : ℕ) (classes : List Class) : Type 0 where
+  -- the number of a class is that of a symbol under which q has a rule
   pub sound : (class : Class) → Contains classes class
-      → (a : Symbol) × (kids : List ℕ) × IsAt symbols class.symbol a × H a kids q × IsClassUnder H q r a class
+      → (a : Symbol) × (kids : List ℕ) × IsNumber bits symbols class.symbol a × H a kids q × IsClassUnder H q r a class
   -- a class may serve several symbols
   pub covering : (a : Symbol) (kids : List ℕ) → H a kids q → (class : Class) × Contains classes class × IsClassUnder H q r a class
 
@@ -44,9 +44,9 @@ pub record IsUpClassUnder (A : Automaton) (first second : List ℕ) (a : Symbol)
 
 -- the classes of two rows of children: for each symbol under which some rule has the first, and for no other
 pub record AreUpClasses (A : Automaton) (first second : List ℕ) (classes : List UpClass) : Type 0 where
-  -- the symbol of a class is one under which some rule has the first children
+  -- the number of a class is that of a symbol under which some rule has the first children
   pub sound : (class : UpClass) → Contains classes class
-      → (a : Symbol) × (parent : ℕ) × IsLabel A class.symbol a × HasRule A a first parent × IsUpClassUnder A first second a class
+      → (a : Symbol) × (parent : ℕ) × IsNumber A.bits A.symbols class.symbol a × HasRule A a first parent × IsUpClassUnder A first second a class
   -- a class may serve several symbols
   pub covering : (a : Symbol) (parent : ℕ) → HasRule A a first parent
       → (class : UpClass) × Contains classes class × IsUpClassUnder A first second a class

@@ -5,3 +5,4 @@ pub mod Restriction
 pub mod Pairing
 pub mod Macrostates
 pub mod UpGroups
+pub mod DownGroups

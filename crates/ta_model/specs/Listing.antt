@@ -1,11 +1,12 @@
 -- What a listed automaton keeps.
 use Rattle.std.specs.Prelude.{◌<◌, ◌≤◌, length, All}
-use Rattle.tree_definitions.specs.Automaton.{Automaton, IsAutomaton}
+use Rattle.tree_definitions.specs.Automaton.{Automaton, IsAutomaton, IsNarrow}
 use Rattle.tree_definitions.specs.Name.{IsName}
 
--- an automaton whose names are names, and whose lists are not too long for numbers of 32 bits
+-- a narrow automaton whose names are names, and whose lists are not too long for numbers of 32 bits
 pub record IsListed (A : Automaton) : Type 0 where
   pub automaton : IsAutomaton A
+  pub narrow : IsNarrow A
   pub name : IsName A.name
   pub symbol_names : All (λ a. IsName a.name) A.symbols
   pub state_names : All IsName A.states

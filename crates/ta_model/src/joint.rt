@@ -7,6 +7,7 @@ ghost use Rattle.tree_definitions.specs.Joint.{JointRule, joint_symbols};
 ghost use Rattle.tree_definitions.specs.Union.{IsUnion};
 ghost use Rattle.ta_model.specs.Listing.{IsListed};
 ghost use Rattle.ta_model.specs.Classes.{AreClasses};
+ghost use Rattle.ta_model.specs.DownGroups.{AreDownGroups};
 ghost use Rattle.ta_model.specs.Macrostates.{StoreGrows, row_at};
 ghost use Rattle.ta_model.specs.Pairing.{ArePaired, IsJointState};
 ghost use Rattle.ta_model.specs.Tuples.{kids_of};
@@ -17,6 +18,7 @@ use crate::macrostates::MacroStore;
 use crate::rule::Kids;
 use crate::symbol::Symbol;
 use crate::table::{Class, Table};
+use crate::tuples::Tuples;
 use std::alloc::AllocError;
 
 /// Why two automata are not put together.
@@ -27,13 +29,22 @@ pub enum PairError {
     Memory,
 }
 
-/// Under one symbol, which is given by its place, the parents to which some children lead, and the
+/// Under one symbol, which is given by its place or by its code as a number, the parents to which some children lead, and the
 /// number of the set to which some sets lead.
 #[derive(Debug, Drop)]
 pub struct UpGroup {
     pub symbol: u32,
     pub parents: Vec<u32>,
     pub set: usize,
+}
+
+/// Under one symbol, which is given as in `UpGroup`, the child tuples of a state and those of a set of
+/// states.
+#[derive(Debug, Drop)]
+pub struct DownGroup {
+    pub symbol: u32,
+    pub rules: Tuples,
+    pub tuples: Tuples,
 }
 
 /// Two automata, the left and the right one, over one list of symbols: those of the left, then
@@ -53,6 +64,11 @@ pub trait Joint {
     /// How many diagram nodes it has, 0 where it keeps no diagrams.
     fn nodes(&self) -> usize
         ensures { result ≡ nodes self.now };
+
+    /// How many digits a code of each has, 0 where the symbols are names.
+    fn bits(&self) -> u8
+        ensures left { result ≡ (left self.now).bits }
+        ensures right { result ≡ (right self.now).bits };
 
     /// How many states the left and the right automaton have.
     fn sizes(&self) -> (u32, u32)
@@ -80,7 +96,7 @@ pub trait Joint {
     fn classes(&self, x: u32, y: u32) -> Result<Vec<Class>, AllocError>
         requires first { IsJointState (left self.now) (right self.now) x }
         requires second { IsJointState (left self.now) (right self.now) y }
-        ensures { IfOk result (λ v. AreClasses
+        ensures { IfOk result (λ v. AreClasses (left self.now).bits
             (joint_symbols (left self.now).symbols (right self.now).symbols)
             (JointRule (left self.now) (right self.now)) x y v.items) };
 
@@ -109,6 +125,23 @@ pub trait Joint {
         ensures grows { StoreGrows store.old store.new }
         ensures groups { IfOk result (λ v. AreUpGroups (left self.old) (right self.old)
             kids.now (map (row_at store.old) sets.now) store.new v.items) };
+
+    /// The groups of the left state q and a set of right states: for each symbol under which q has
+    /// a left rule one with all child tuples of q and all of the set's members under it.
+    fn down_groups(
+        &mut self,
+        q: u32,
+        set: usize,
+        store: &MacroStore,
+    ) -> Result<Vec<DownGroup>, AllocError>
+        requires state { IsState (left self.old) q }
+        requires states { store.now.states ≡ length (right self.old).states }
+        requires set { set < length store.now.rows }
+        ensures left { left self.new ≡ left self.old }
+        ensures right { right self.new ≡ right self.old }
+        ensures nodes { nodes self.new ≡ nodes self.old }
+        ensures groups { IfOk result (λ v. AreDownGroups (left self.old) (right self.old)
+            q (row_at store.now set) v.items) };
 
     /// The union of the two.
     fn joined(&self) -> Result<Self::One, AllocError>

@@ -3,17 +3,17 @@
 #![tactic(auto)]
 
 mod joint;
+mod laws;
 mod listed;
 mod macrostates;
 mod name;
 mod rule;
 mod symbol;
 mod table;
-#[cfg(test)]
-mod tests;
 mod tuples;
 
-pub use joint::{Joint, PairError, UpGroup};
+pub use joint::{DownGroup, Joint, PairError, UpGroup};
+pub use laws::restrictions_have_one_canonical_form;
 pub use listed::Listed;
 pub use macrostates::MacroStore;
 pub use name::{Name, NameError};

@@ -12,7 +12,7 @@ use crate::symbol::Symbol;
 use std::alloc::{AllocError, Global};
 use std::marker::Model;
 
-/// An automaton: a name, symbols, state names, places of final states and rules, each list without
+/// A narrow automaton: a name, symbols, state names, places of final states and rules, each list without
 /// repeats and each place in range. At most 65,535 symbols, and fewer than 4,294,967,295 states and
 /// rules.
 #[derive(Debug, Drop)]
@@ -31,6 +31,7 @@ impl Model for Listed {
     ghost Value = { Automaton };
 
     ghost view = { λ a. record {
+      bits = 0;
       name = a.name;
       symbols = a.symbols.items;
       states = a.states.items;
@@ -39,6 +40,7 @@ impl Model for Listed {
     } };
 
     ghost invariant = { λ a. IsListed (record {
+      bits = 0;
       name = a.name;
       symbols = a.symbols.items;
       states = a.states.items;
@@ -79,6 +81,7 @@ impl Listed {
         rules: Vec<Rule>,
     ) -> Listed
         requires { IsListed (record {
+          bits = 0;
           name = name;
           symbols = symbols.items;
           states = states.items;
@@ -86,6 +89,7 @@ impl Listed {
           rules = rules.items;
         }) }
         ensures { result ≡ record {
+          bits = 0;
           name = name;
           symbols = symbols.items;
           states = states.items;

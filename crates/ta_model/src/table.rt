@@ -14,7 +14,8 @@ use crate::tuples::Tuples;
 use bit_rows::Row;
 use std::alloc::AllocError;
 
-/// Child tuples of two states under one symbol, which is given by its place.
+/// Child tuples of two states under one symbol, which is given by its place, or by its code as a
+/// number.
 #[derive(Debug, Drop)]
 pub struct Class {
     pub symbol: u32,
@@ -22,8 +23,8 @@ pub struct Class {
     pub second: Tuples,
 }
 
-/// Parents of two rows of children under one symbol, which is given by its place. A row has a
-/// place for each state.
+/// Parents of two rows of children under one symbol, which is given by its place, or by its code as a
+/// number. A row has a place for each state.
 #[derive(Debug, Drop)]
 pub struct UpClass {
     pub symbol: u32,
@@ -42,6 +43,10 @@ pub trait Table: Sized + Drop {
     /// How many diagram nodes it has, 0 where it keeps no diagrams.
     fn nodes(&self) -> usize
         ensures { result ≡ nodes self.now };
+
+    /// How many digits a code has, 0 where the symbols are names.
+    fn bits(&self) -> u8
+        ensures { result ≡ (automaton self.now).bits };
 
     /// How many states there are.
     fn states(&self) -> u32
@@ -71,7 +76,7 @@ pub trait Table: Sized + Drop {
         requires first { IsState (automaton self.now) q }
         requires second { IsState (automaton self.now) r }
         ensures { IfOk result (λ v.
-            AreClasses (automaton self.now).symbols (HasRule (automaton self.now)) q r v.items) };
+            AreClasses (automaton self.now).bits (automaton self.now).symbols (HasRule (automaton self.now)) q r v.items) };
 
     /// The classes of two rows of children: for each symbol under which some rule has the first
     /// children one with all parents of the first and all of the second under it.

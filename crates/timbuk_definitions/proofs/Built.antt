@@ -232,8 +232,8 @@ module _ (items : List Item) (rules : RulesKnown items) where
       let finals = places_for (states_of items) (finals_of items) (each_contains (Contains (states_of items)) (finals_of items)
       (λ w m. state_listed w (finals_known items w ((first_contains bytes_eq bytes_eq-Decides (filter_map final_of items) w).0 m)))) in
       let lines = lines_for (rules_of items) (each_contains (RuleKnown items) (rules_of items) (λ r m. rules r ((first_contains same_rule rule_decides (filter_map rule_in items) r).0 m))) in (
-        record { name = name_of items; symbols = symbols_of items; states = states_of items; finals = finals.0; rules = lines.0 },
-        record { name = refl; symbols = refl; states = refl; finals = finals.1; rules = lines.1 },
+        record { bits = 0; name = name_of items; symbols = symbols_of items; states = states_of items; finals = finals.0; rules = lines.0 },
+        record { narrow = refl; name = refl; symbols = refl; states = refl; finals = finals.1; rules = lines.1 },
       )
 
 pub file_rules : (items : List Item) → IsFile items → RulesKnown items

@@ -1,5 +1,5 @@
 -- What a text spells is an automaton: no list has a repeat, and each place is in range.
-use Rattle.std.proofs.Common.{◌≡◌, ◌≢◌, ℕ, zero, suc, ◌<◌, List, [], ◌∷◌, length, get_or, refl, sym, ap, ◌∙◌, subst, arith}
+use Rattle.std.proofs.Common.{◌≡◌, ◌≢◌, inl, ℕ, zero, suc, ◌<◌, List, [], ◌∷◌, length, get_or, refl, sym, ap, ◌∙◌, subst, arith}
 use Rattle.std.specs.Prelude.{AllPairs, filter_map}
 use Rattle.std.specs.List.{AllByRecursion, AllZip}
 use Rattle.std.specs.Str.{bytes_eq}
@@ -85,4 +85,5 @@ file_formed items A file lists =
       rules = zip_distinct (IsRuleAt A.symbols A.states) (rule_functional A.symbols A.states) A.rules (rules_of items) lists.rules (first_distinct same_rule rule_decides (filter_map rule_in items));
       final_states = All-from_recursion (IsState A) A.finals (zip_each (IsAt A.states) (IsState A) (within A.states) A.finals (finals_of items) lists.finals);
       fitting = All-from_recursion (FitsLine A) A.rules (zip_each_with (IsRuleAt A.symbols A.states) (FitsLine A) (RuleKnown items) (λ l r at k. line_fits A l r at k.rank) A.rules (rules_of items) lists.rules known);
+      form = inl lists.narrow;
     }

@@ -11,7 +11,7 @@ use Rattle.std.proofs.lemmas.List.Sums.{fold-append}
 use Rattle.std.proofs.lemmas.Slice.Eq.{bytes_eq-Decides}
 use Rattle.std.proofs.lemmas.Fmt.{decimal_is_IsNumeral}
 use Rattle.tree_definitions.specs.Tree.{Symbol}
-use Rattle.tree_definitions.specs.Automaton.{Automaton, Rule, IsState, FitsRule as FitsLine, IsAutomaton}
+use Rattle.tree_definitions.specs.Automaton.{Automaton, Rule, IsNarrow, IsState, FitsRule as FitsLine, IsAutomaton}
 use Rattle.tree_definitions.specs.Relation.{IsAt}
 use Rattle.tree_definitions.specs.Joint.{same_symbol}
 use Rattle.tree_definitions.proofs.Members.{contains_at, contains_head, contains_tail}
@@ -353,7 +353,7 @@ ranks_back (a ∷ as') h = λ i. record { name = a.name; rank = (decimal_is_IsNu
 abbrev nothing : {Z Y : Type 0} → Z → List Y
 nothing z = []
 
-module _ (A : Automaton) (fits : IsAutomaton A) (names : HasNames A) where
+module _ (A : Automaton) (fits : IsAutomaton A) (narrow : IsNarrow A) (names : HasNames A) where
   abbrev Items : List Item
   Items = items_of (file_of A)
 
@@ -439,6 +439,7 @@ module _ (A : Automaton) (fits : IsAutomaton A) (names : HasNames A) where
     (file_of A, file_fits A fits names, refl),
     subst (λ text. Tokens text (item_tokens Items)) (sym (plain_chained A)) (tokens_written A fits names),
     record {
+      narrow = narrow;
       name = sym title_back;
       symbols = sym symbols_back;
       states = sym states_back;

@@ -3,7 +3,7 @@
 
 ghost use Rattle.std.specs.Prelude.{List, ℕ, [], ◌∷◌, ◌++◌, ◌≡◌, ◌↔◌, ◌⊎◌, AllPairs, ◌≢◌, Contains, Some};
 ghost use Rattle.std.specs.Str.{bytes_eq};
-ghost use Rattle.tree_definitions.specs.Automaton.{Automaton, IsAutomaton};
+ghost use Rattle.tree_definitions.specs.Automaton.{Automaton, IsAutomaton, IsNarrow};
 ghost use Rattle.tree_definitions.specs.Canonical.{canon};
 ghost use Rattle.timbuk_definitions.specs.Token.{Token, Tokens, IsToken};
 ghost use Rattle.timbuk_definitions.specs.Grammar.{Item, IsFile, BeginsFile, BeginFileTokens, item_tokens};
@@ -70,8 +70,8 @@ pub fn what_passes_no_limit_is_small()
     ensures lists { (text : List ℕ) (A : Automaton) → Spells text A → PassesNoLimit text → IsSmall A }
 {}
 
-/// The text of an automaton spells it, and the printed text spells its canonical form.
+/// The text of a narrow automaton spells it, and the printed text spells its canonical form.
 pub fn printed_text_spells_the_automaton()
-    ensures text { (A : Automaton) → IsAutomaton A → HasNames A → Spells (plain_text A) A }
-    ensures printed { (A : Automaton) → IsAutomaton A → HasNames A → Spells (print A) (canon A) }
+    ensures text { (A : Automaton) → IsAutomaton A → IsNarrow A → HasNames A → Spells (plain_text A) A }
+    ensures printed { (A : Automaton) → IsAutomaton A → IsNarrow A → HasNames A → Spells (print A) (canon A) }
 {}

@@ -29,7 +29,7 @@ names A h small = record {
 }
 
 pub spells_as : {X E : Type 0} (f : X → List ℕ) (A : Automaton) (r : Result X E) → IfOk r (λ v. f v ≡ print A) → OnOk r (All (λ (a : Symbol). a.rank < 256) A.symbols) → OnOk r (IsListed A) → IfOk r (λ v. Spells (f v) (canon A))
-spells_as f A (Ok v) text small listed = subst (λ t. Spells t (canon A)) (sym text) (print_read_back A listed.automaton (names A listed small))
+spells_as f A (Ok v) text small listed = subst (λ t. Spells t (canon A)) (sym text) (print_read_back A listed.automaton listed.narrow (names A listed small))
 spells_as f A (Err x) text small listed = text
 
 -- one more symbol of small rank

@@ -185,7 +185,7 @@ module _ (text : List ℕ) (at : ℕ) (stand : Stand) (s : Store) (r : IsReading
   end_bad n = (ended_early text r.gap r.front r.items r.spot all_read n, ended_unlimited text r.gap r.front r.items r.spot all_read)
 
   lists : HasLists r.items (automaton_of s)
-  lists = record { name = ap (λ t. unwrap_or t (codes "anonymous")) r.lists.title; symbols = r.lists.symbols; states = r.lists.states; finals = r.lists.finals; rules = r.lists.rules }
+  lists = record { narrow = refl; name = ap (λ t. unwrap_or t (codes "anonymous")) r.lists.title; symbols = r.lists.symbols; states = r.lists.states; finals = r.lists.finals; rules = r.lists.rules }
 
   module _ (e : IsEnd r.spot) where
     file : IsFile r.items × Tokens text (item_tokens r.items)
@@ -204,6 +204,7 @@ module _ (text : List ℕ) (at : ℕ) (stand : Stand) (s : Store) (r : IsReading
         let small = within_small r.items (automaton_of s) r.read.within lists in
         record {
           automaton = file_formed r.items (automaton_of s) file.0 lists;
+          narrow = refl;
           name = names.name;
           symbol_names = All-from_recursion (λ (a : Symbol). IsName a.name) s.symbols (names_of_symbols s.symbols names.symbols);
           state_names = All-from_recursion IsName s.states names.states;

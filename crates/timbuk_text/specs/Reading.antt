@@ -28,6 +28,7 @@ pub record IsReading (text : List ℕ) (at : ℕ) (stand : Stand) (s : Store) : 
 -- the automaton of the lists
 abbrev pub automaton_of : Store → Automaton
 automaton_of s = record {
+  bits = 0;
   name = unwrap_or s.title (codes "anonymous");
   symbols = s.symbols;
   states = s.states;

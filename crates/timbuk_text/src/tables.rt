@@ -163,7 +163,6 @@ fn names_of(alloc: Global, words: &Words) -> Result<Vec<Name>, AllocError>
 }
 
 /// The automaton's name, or the one that it has where the file gives none.
-#[tactic(auto, unfolding(tree_definitions::specs::Name::is_section_word))]
 fn title_or_anonymous(alloc: Global, title: Option<Name>) -> Result<Name, AllocError>
     ensures { IfOk result (λ name. name ≡ unwrap_or title (codes "anonymous")) }
 {

@@ -1,5 +1,5 @@
 -- The automaton of all trees over a leaf and a fork, in itself: both certificates can be met.
-use Rattle.std.proofs.Common.{◌≡◌, inl, inr, ℕ, zero, suc, ◌<◌, List, [], ◌∷◌, ◌++◌, length, true, refl, sym, ap, ◌∙◌, subst, arith}
+use Rattle.std.proofs.Common.{◌≡◌, inl, inr, ℕ, zero, suc, ◌<◌, List, [], ◌∷◌, ◌++◌, length, true, refl, sym, ap, subst, arith}
 use Rattle.std.specs.Prelude.{◌≢◌, Contains, All, AllPairs}
 use Rattle.std.specs.List.{AllZip}
 use Rattle.std.proofs.Math.Decide.{ℕ_discrete}
@@ -34,6 +34,7 @@ fork_rule = record { symbol = 1; kids = 0 ∷ 0 ∷ []; parent = 0 }
 
 abbrev pub all : Automaton
 all = record {
+  bits = 0;
   name = [];
   symbols = leaf ∷ fork ∷ [];
   states = (113 ∷ []) ∷ [];
@@ -47,9 +48,9 @@ tree = Node fork (More (Node leaf NoTrees) (More (Node leaf NoTrees) NoTrees))
 
 pub accepts_tree : Accepts all tree
 unfolding IsRule IsLabel
-accepts_tree = (0, contains_head 0 [], (0 ∷ 0 ∷ [], (1, (1, refl, refl)), (([], (0, (0, refl, refl)), tt), (([], (0, (0, refl, refl)), tt), tt))))
+accepts_tree = (0, contains_head 0 [], (0 ∷ 0 ∷ [], (1, (1, (fork, refl, refl), refl)), (([], (0, (0, (leaf, refl, refl), refl)), tt), (([], (0, (0, (leaf, refl, refl), refl)), tt), tt))))
 
-one_apart : {X : Type 0} (x : X) → AllPairs ◌≢◌ (x ∷ [])
+pub one_apart : {X : Type 0} (x : X) → AllPairs ◌≢◌ (x ∷ [])
 one_apart x i j d l k = absurd (omega arith)
 
 two_apart : {X : Type 0} (x y : X) → x ≢ y → AllPairs ◌≢◌ (x ∷ y ∷ [])
@@ -67,6 +68,7 @@ fits = record {
   rules = two_apart leaf_rule fork_rule (λ e. let f : 0 ≡ 1 = ap (λ (r : Rule). r.symbol) e in omega arith);
   final_states = All-cons (IsState all) 0 [] first (All-nil (IsState all));
   fitting = All-cons (FitsRule all) leaf_rule (fork_rule ∷ []) leaf_fits (All-cons (FitsRule all) fork_rule [] fork_fits (All-nil (FitsRule all)));
+  form = inl refl;
 }
   where
     first : IsState all 0
@@ -93,6 +95,11 @@ pairs = pair ∷ []
 
 only : (x : Pair) → Contains pairs x → pair ≡ x
 only x m = elim (contains_cases pair [] x m) [ inl e ↦ e | inr n ↦ absurd (contains_none x n) ]
+
+only_place : (i j : ℕ) (x y : Pair) → IsAt pairs i x → IsAt pairs j y → i ≡ j
+only_place zero zero x y p q = refl
+only_place zero (suc j) x y p q = absurd cc
+only_place (suc i) j x y p q = absurd cc
 
 member_is : (s : ℕ) → Has (true ∷ []) s → s ≡ 0
 member_is zero m = refl
@@ -148,7 +155,7 @@ up_certificate = record {
   accepting = λ x m r. r.none 0 (subst (λ (y : Pair). Has y.set 0) (only x m) refl) (contains_head 0 []);
   leaves = λ a p h. covered_up a [] p h [] tt;
   steps = λ a q qs p h sets l. covered_up a (q ∷ qs) p h sets l;
-  apart = λ x y m n ne c. ne (sym (only x m) ∙ only y n);
+  apart = λ i j x y ne p q c. ne (only_place i j x y p q);
 }
 
 is_down : IsDown (JointRule all all) Two
@@ -170,7 +177,7 @@ down_certificate = record {
   simulation = is_down;
   finals = λ f h. covered_down f (state_is f (All-contains (IsState all) all.finals f fits.final_states h)) (IsFinal all) (contains_head 0 []);
   choices = choices;
-  apart = λ x y m n ne c. ne (sym (only x m) ∙ only y n);
+  apart = λ i j x y ne p q c. ne (only_place i j x y p q);
 }
   where
     -- the tuple of the rule itself is sent to some place

@@ -3,6 +3,7 @@ pub mod Closure
 pub mod Upward
 pub mod Choices
 pub mod Listing
+pub mod Cubes
 pub mod Joins
 pub mod Downward
 pub mod Trimmed
@@ -23,3 +24,8 @@ pub mod Example
 pub mod Sorted
 pub mod CanonicalForms
 pub mod InOrder
+pub mod Determined
+pub mod Results
+pub mod SameRules
+pub mod WideExample
+pub mod Standing

@@ -50,7 +50,7 @@ module _ {K : Type 0} where
   keys_keyed [] = refl
   keys_keyed (x ∷ xs) = ap (λ l. x ∷ l) (keys_keyed xs)
 
-  found : (R : K → K → Ordering) (q : K) (xs : List K) → fin.find R q (keyed xs) ≡ cond (list_any (eq_by_cmp R q) xs) (Some (tt {0})) None
+  pub found : (R : K → K → Ordering) (q : K) (xs : List K) → fin.find R q (keyed xs) ≡ cond (list_any (eq_by_cmp R q) xs) (Some (tt {0})) None
   found R q [] = refl
   found R q (x ∷ xs) =
       elim (eq_by_cmp R q x) as (λ b. cond b (Some (tt {0})) (fin.find R q (keyed xs)) ≡ cond (b || list_any (eq_by_cmp R q) xs) (Some (tt {0})) None) [ true ↦ refl | false ↦ found R q xs ]

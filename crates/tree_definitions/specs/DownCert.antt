@@ -38,5 +38,5 @@ pub record DownCert (A B : Automaton) (R : Relation) (X : List Pair) : Type 0 wh
   pub choices : (pair : Pair) → Contains X pair → (a : Symbol) (kids : List ℕ) → HasRule A a kids pair.state
       → (choice : List ℕ → ℕ) → ((tuple : List ℕ) → Downs B a pair.set tuple → choice tuple < length kids)
       → (i : ℕ) × (q : ℕ) × IsAt kids i q × IsCoveredDown A R X q (SentTo B a pair.set choice i)
-  -- no listed pair covers another one
-  pub apart : (x y : Pair) → Contains X x → Contains X y → x ≢ y → ¬ CoversDown A R x y.state (Has y.set)
+  -- no listed pair covers the pair at another place
+  pub apart : (i j : ℕ) (x y : Pair) → i ≢ j → IsAt X i x → IsAt X j y → ¬ CoversDown A R x y.state (Has y.set)

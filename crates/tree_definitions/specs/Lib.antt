@@ -1,4 +1,5 @@
 pub mod Tree
+pub mod Code
 pub mod Automaton
 pub mod Name
 pub mod Canonical

@@ -2,7 +2,7 @@
 use Rattle.std.specs.Prelude.{◌≡◌, ◌↔◌, ◌⊎◌, ℕ, ◌<◌, List, ◌++◌, map, Contains, AllPairs, codes, decimal}
 use Rattle.std.specs.List.{AllZip}
 use Rattle.tree_definitions.specs.Tree.{Symbol, Tree}
-use Rattle.tree_definitions.specs.Automaton.{Automaton, HasSymbols, HasRule, IsFinal}
+use Rattle.tree_definitions.specs.Automaton.{Automaton, HasSymbols, HasRule, IsAutomaton, IsFinal}
 use Rattle.tree_definitions.specs.Language.{Reaches}
 use Rattle.tree_definitions.specs.Relation.{IsAt}
 use Rattle.tree_definitions.specs.Joint.{joint_symbols}
@@ -26,6 +26,7 @@ AreReachedTogether A B x = (t : Tree) × Reaches A t x.left × Reaches B t x.rig
 
 -- P is the product of A and B, with these pairs as its states
 pub record MultipliesTo (A B P : Automaton) (pairs : List Both) : Type 0 where
+  pub bits : P.bits ≡ A.bits
   pub name : P.name ≡ codes "isect"
   pub symbols : HasSymbols P (joint_symbols A.symbols B.symbols)
   -- all pairs that one tree reaches together, in order
@@ -38,6 +39,8 @@ pub record MultipliesTo (A B P : Automaton) (pairs : List Both) : Type 0 where
   pub rules : (a : Symbol) (kids : List ℕ) (k : ℕ)
       → HasRule P a kids k ↔ ((xs : List Both) × (x : Both) × AllZip (IsAt pairs) kids xs × IsAt pairs k x
       × HasRule A a (map (λ x. x.left) xs) x.left × HasRule B a (map (λ x. x.right) xs) x.right)
+  -- and no line beside them
+  pub fitting : IsAutomaton P
 
 -- P is the product of A and B
 abbrev pub IsProduct : Automaton → Automaton → Automaton → Type 0

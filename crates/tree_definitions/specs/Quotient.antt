@@ -3,7 +3,7 @@ use Rattle.std.specs.Prelude.{◌≡◌, ◌↔◌, ℕ, ◌<◌, List, length, 
 use Rattle.std.specs.List.{AllZip}
 use Rattle.std.specs.List.Sorted.{IsStrictlyIncreasing}
 use Rattle.tree_definitions.specs.Tree.{Symbol}
-use Rattle.tree_definitions.specs.Automaton.{Automaton, HasSymbols, HasRule, IsFinal, IsState}
+use Rattle.tree_definitions.specs.Automaton.{Automaton, HasSymbols, HasRule, IsAutomaton, IsFinal, IsState}
 use Rattle.tree_definitions.specs.Relation.{Relation, Matrix, Holds, IsAt, IsSquare}
 use Rattle.tree_definitions.specs.Simulation.{GreatestDown}
 use Rattle.tree_definitions.specs.Trim.{IsTrim}
@@ -23,6 +23,7 @@ IsInClass D firsts i q = (f : ℕ) × IsAt firsts i f × AreSame D f q
 
 -- C has a state for each class of T, in the order of their first states
 pub record CollapsesTo (T C : Automaton) (D : Relation) (firsts : List ℕ) : Type 0 where
+  pub bits : C.bits ≡ T.bits
   pub name : C.name ≡ T.name
   pub symbols : HasSymbols C T.symbols
   -- the first states of the classes, whose names the classes take
@@ -34,6 +35,8 @@ pub record CollapsesTo (T C : Automaton) (D : Relation) (firsts : List ℕ) : Ty
   -- the rules of T, each state replaced by its class
   pub rules : (a : Symbol) (kids : List ℕ) (i : ℕ)
       → HasRule C a kids i ↔ ((qs : List ℕ) × (q : ℕ) × AllZip (IsInClass D firsts) kids qs × IsInClass D firsts i q × HasRule T a qs q)
+  -- and no line beside them
+  pub fitting : IsAutomaton C
 
 -- the rows are those of the greatest downward simulation of T
 pub record IsGreatestDown (T : Automaton) (m : Matrix) : Type 0 where

@@ -3,7 +3,7 @@ use Rattle.std.specs.Prelude.{◌≡◌, ◌↔◌, ℕ, List, [], ◌∷◌, Al
 use Rattle.std.specs.List.{AllZip}
 use Rattle.std.specs.List.Sorted.{IsStrictlyIncreasing}
 use Rattle.tree_definitions.specs.Tree.{Symbol, Tree}
-use Rattle.tree_definitions.specs.Automaton.{Automaton, HasSymbols, HasRule, IsFinal}
+use Rattle.tree_definitions.specs.Automaton.{Automaton, HasSymbols, HasRule, IsAutomaton, IsFinal}
 use Rattle.tree_definitions.specs.Language.{Reaches}
 use Rattle.tree_definitions.specs.Relation.{IsAt}
 
@@ -26,6 +26,7 @@ IsUseful A q = (path : List ℕ) × Climbs A q path
 
 -- T is A with the kept states alone
 pub record TrimsTo (A T : Automaton) (kept : List ℕ) : Type 0 where
+  pub bits : T.bits ≡ A.bits
   pub name : T.name ≡ A.name
   pub symbols : HasSymbols T A.symbols
   -- the useful states, in their order
@@ -37,6 +38,8 @@ pub record TrimsTo (A T : Automaton) (kept : List ℕ) : Type 0 where
   -- the rules between them
   pub rules : (a : Symbol) (kids : List ℕ) (i : ℕ)
       → HasRule T a kids i ↔ ((qs : List ℕ) × (q : ℕ) × AllZip (IsAt kept) kids qs × IsAt kept i q × HasRule A a qs q)
+  -- and no line beside them
+  pub fitting : IsAutomaton T
 
 -- T is A without its useless states
 abbrev pub IsTrim : Automaton → Automaton → Type 0

@@ -3,7 +3,7 @@ use Rattle.std.specs.Prelude.{◌≢◌, ℕ, List, [], ◌∷◌, Contains}
 use Rattle.std.specs.List.{AllZip}
 use Rattle.tree_definitions.specs.Tree.{Symbol}
 use Rattle.tree_definitions.specs.Automaton.{Automaton, HasRule}
-use Rattle.tree_definitions.specs.Relation.{Relation, Places, Row, Has}
+use Rattle.tree_definitions.specs.Relation.{Relation, Places, Row, Has, IsAt}
 use Rattle.tree_definitions.specs.Simulation.{IsUp}
 use Rattle.tree_definitions.specs.Cover.{Pair, Post, Rejects, CoversUp}
 
@@ -26,5 +26,5 @@ pub record UpCert (A B : Automaton) (RA RB : Relation) (X : List Pair) : Type 0 
   -- the step of each other rule, from listed pairs for its children, is covered by a listed pair
   pub steps : (a : Symbol) (q : ℕ) (qs : List ℕ) (p : ℕ) → HasRule A a (q ∷ qs) p
       → (sets : List Row) → AreListed X (q ∷ qs) sets → IsCoveredUp RA RB X p (Post B a sets)
-  -- no listed pair covers another one
-  pub apart : (x y : Pair) → Contains X x → Contains X y → x ≢ y → ¬ CoversUp RA RB x y.state (Has y.set)
+  -- no listed pair covers the pair at another place
+  pub apart : (i j : ℕ) (x y : Pair) → i ≢ j → IsAt X i x → IsAt X j y → ¬ CoversUp RA RB x y.state (Has y.set)

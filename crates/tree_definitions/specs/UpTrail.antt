@@ -2,12 +2,12 @@
 use Rattle.std.specs.Prelude.{◌≡◌, ℕ, ◌+◌, ◌<◌, List, map, length}
 use Rattle.std.specs.List.{AllZip}
 use Rattle.tree_definitions.specs.Tree.{Symbol}
-use Rattle.tree_definitions.specs.Automaton.{Automaton, IsLabel, HasRule}
+use Rattle.tree_definitions.specs.Automaton.{Automaton, IsNumber, HasRule}
 use Rattle.tree_definitions.specs.Relation.{Relation, Has, IsAt, AreEqual}
 use Rattle.tree_definitions.specs.Simulation.{IsUp}
 use Rattle.tree_definitions.specs.Cover.{Pair, Post, Rejects, CoversUp}
 
--- a pair with the step to it: the place of a symbol of A, and the numbers of the entries for the children
+-- a pair with the step to it: the number of a symbol of A, and the numbers of the entries for the children
 pub record UpEntry : Type 0 where
   pub pair : Pair
   pub symbol : ℕ
@@ -20,7 +20,7 @@ HasPairBefore entries i e pair = (e < i) × ((entry : UpEntry) × IsAt entries e
 -- the entry's pair is a step from those of earlier entries: its state by a rule of A, its set by the rules of B
 pub record IsUpStep (A B : Automaton) (entries : List UpEntry) (i : ℕ) (entry : UpEntry) : Type 0 where
   pub symbol : Symbol
-  pub stands : IsLabel A entry.symbol symbol
+  pub stands : IsNumber A.bits A.symbols entry.symbol symbol
   pub pairs : List Pair
   pub named : AllZip (HasPairBefore entries i) entry.kids pairs
   pub rule : HasRule A symbol (map (λ pair. pair.state) pairs) entry.pair.state

@@ -1,7 +1,7 @@
 //! The trees that the canonical form, the trimmed automaton, the union, the product and the quotient
 //! accept.
 
-ghost use Rattle.std.specs.Prelude.{ℕ, ◌↔◌, ◌⊎◌, Contains};
+ghost use Rattle.std.specs.Prelude.{ℕ, ◌≡◌, ◌↔◌, ◌⊎◌, Contains};
 ghost use Rattle.std.specs.List.Sorted.{IsStrictlySortedBy};
 ghost use Rattle.std.specs.Ordering.{nat_cmp};
 ghost use Rattle.tree_definitions.specs.Tree.{Tree};
@@ -44,4 +44,15 @@ pub fn canonical_form_is_in_order()
     ensures rising_finals { (A : Automaton) → IsStrictlySortedBy nat_cmp (canon A).finals }
     ensures rising_rules { (A : Automaton) → IsStrictlySortedBy rule_cmp (canon A).rules }
     ensures language { (A : Automaton) → SameLanguage A (canon A) }
+{}
+
+/// Two trims of one automaton have the same canonical form, and so two unions, two products and two
+/// quotients. Trims of automata with the same canonical form have it too. So nothing of a canonical
+/// result is free.
+pub fn results_have_one_canonical_form()
+    ensures trim_of_form { (A B T U : Automaton) → canon A ≡ canon B → IsTrim A T → IsTrim B U → canon T ≡ canon U }
+    ensures trim { (A T U : Automaton) → IsTrim A T → IsTrim A U → canon T ≡ canon U }
+    ensures union { (A B U V : Automaton) → IsUnion A B U → IsUnion A B V → canon U ≡ canon V }
+    ensures product { (A B P Q : Automaton) → IsProduct A B P → IsProduct A B Q → canon P ≡ canon Q }
+    ensures quotient { (A C D : Automaton) → IsQuotient A C → IsQuotient A D → canon C ≡ canon D }
 {}

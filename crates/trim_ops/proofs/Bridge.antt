@@ -7,7 +7,7 @@ use Rattle.tree_definitions.specs.Tree.{Symbol}
 use Rattle.tree_definitions.specs.Automaton.{Automaton, Rule, IsLabel, IsRule, HasRule, FitsRule, IsAutomaton}
 use Rattle.tree_definitions.specs.Relation.{IsAt}
 use Rattle.tree_definitions.specs.Trim.{IsReachable}
-use Rattle.tree_definitions.proofs.Listing.{label_at, rule_of_line}
+use Rattle.tree_definitions.proofs.Standing.{some_rule}
 use Rattle.tree_definitions.proofs.Members.{contains_at}
 use Rattle.tree_definitions.proofs.Marked.{reachable_parent, reachable_within}
 use Rattle.trim_ops.specs.Marking.{Derived, by_rule, IsWithin, AreWithin}
@@ -18,14 +18,8 @@ all_at P xs h i d l = h i _ (slice_get-get_or xs i d l)
 pub within_states : (A : Automaton) → IsAutomaton A → AreWithin (length A.states) A.rules
 within_states A fits = All-weaker (FitsRule A) (IsWithin (length A.states)) (λ r f. record { kids = f.kids; parent = f.parent }) A.rules fits.fitting
 
-fits_at : (A : Automaton) → IsAutomaton A → (r : ℕ) (rule : Rule) → IsAt A.rules r rule → FitsRule A rule
-fits_at A fits r rule at = All-contains (FitsRule A) A.rules rule fits.fitting (contains_at A.rules r rule at)
-
 pub has_line : (A : Automaton) (fits : IsAutomaton A) (r : ℕ) (rule : Rule) → IsAt A.rules r rule → (a : Symbol) × IsLabel A rule.symbol a × HasRule A a rule.kids rule.parent
-has_line A fits r rule at =
-    let f = fits_at A fits r rule at in
-    let label = label_at A rule.symbol f.symbol.0 f.symbol.1 in
-    (f.symbol.0, label, (r, rule_of_line A r rule f.symbol.0 at label))
+has_line A fits r rule at = some_rule A fits r rule at
 
 derived_reachable : (A : Automaton) → IsAutomaton A → (q : ℕ) → Derived A.rules q → IsReachable A q
 derived_reachable A fits q (by_rule r rule at kids) =

@@ -3,4 +3,3 @@ pub mod UsefulSteps
 pub mod Bridge
 pub mod Indexing
 pub mod Views
-pub mod SameRules

@@ -14,6 +14,3 @@ pub use index::{RuleIndex, rules_by_child, rules_by_parent};
 pub use ops::{reachable, trim, useful};
 pub use reach::derived;
 pub use spread::useful_of;
-
-#[cfg(test)]
-mod tests;

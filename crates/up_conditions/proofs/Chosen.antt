@@ -4,11 +4,11 @@ use Rattle.std.specs.List.{AllZip}
 use Rattle.std.specs.Prelude.{Contains}
 use Rattle.std.proofs.lemmas.List.Elements.{All-weaker}
 use Rattle.tree_definitions.specs.Tree.{Symbol}
-use Rattle.tree_definitions.specs.Automaton.{Automaton, Rule, IsLabel, IsRule, HasRule, FitsRule, IsAutomaton}
+use Rattle.tree_definitions.specs.Automaton.{Automaton, Rule, IsLabel, HasRule, FitsRule, IsAutomaton}
 use Rattle.tree_definitions.specs.Cover.{Pair, Post}
 use Rattle.tree_definitions.specs.Relation.{Relation, Row, Has, IsAt}
 use Rattle.tree_definitions.specs.UpCert.{IsCoveredUp, AreListed}
-use Rattle.tree_definitions.proofs.Listing.{label_at, rule_of_line}
+use Rattle.tree_definitions.proofs.Listing.{rule_of_line, rule_parts}
 use Rattle.tree_definitions.proofs.Members.{at_unique, contains_at, place_of}
 use Rattle.trim_ops.specs.Marking.{AreWithin, IsWithin}
 use Rattle.up_conditions.specs.Choosing.{AreOpen, BeginIn, HasKidIn, IsChoiceCovered, LeadsTo}
@@ -94,15 +94,16 @@ module _ (B : Automaton) (a : Symbol) (sets : List Row) (list : List ℕ) (leave
         let rule = h.0 in
         let o = leaves.within r m in
         let same : o.0 ≡ rule = at_unique B.rules r o.0 rule o.1 h.1 in
-        let label : IsLabel B rule.symbol a = label_at B rule.symbol a (subst (λ (x : Rule). IsAt B.symbols x.symbol a) same o.2) in
+        let label : IsLabel B rule.symbol a = subst (λ (x : Rule). IsLabel B x.symbol a) same o.2 in
         let has : HasRule B a rule.kids rule.parent = (r, rule_of_line B r rule a h.1 label) in
         (rule.kids, subst (HasRule B a rule.kids) h.3 has, zip_begin sets rule.kids h.2 (subst (λ (x : Rule). BeginIn sets x.kids) same o.3))
 
     pub post_leads : Post B a sets s → (r : ℕ) × Contains list r × LeadsTo B.rules (length sets) s r
-    unfolding IsRule IsLabel
-    post_leads (kids, (r, (i, label, rat)), zip) =
-        let rule : Rule = record { symbol = i; kids = kids; parent = s } in
-        (r, leaves.whole r rule rat label (begin_zip sets kids zip), (rule, rat, zip_long sets kids zip, refl))
+    post_leads (kids, (r, is), zip) =
+        let parts = rule_parts B r a kids s is in
+        let rat = parts.2 in
+        let rule : Rule = record { symbol = parts.0; kids = kids; parent = s } in
+        (r, leaves.whole r rule rat parts.1 (begin_zip sets kids zip), (rule, rat, zip_long sets kids zip, refl))
 
 pub next_open : (B : Automaton) (rules : List Rule) → rules ≡ B.rules → (a : Symbol) (sets : List Row) (count : ℕ) → length sets ≡ count → (list next : List ℕ) (P : Row)
     → ((r : ℕ) → Contains next r ↔ (Contains list r × HasKidIn rules count P r)) → AreOpen B a sets list → AreOpen B a (sets ++ P ∷ []) next

@@ -5,13 +5,14 @@ use Rattle.std.proofs.lemmas.Bool.{cases_eq}
 use Rattle.std.proofs.lemmas.List.Elements.{All-contains}
 use Rattle.std.proofs.lemmas.Option.{slice_get_within}
 use Rattle.tree_definitions.specs.Tree.{Symbol}
-use Rattle.tree_definitions.specs.Automaton.{Automaton, Rule, IsLabel, IsRule, HasRule}
+use Rattle.tree_definitions.specs.Automaton.{Automaton, Rule, HasRule}
 use Rattle.tree_definitions.specs.Canonical.{canon}
 use Rattle.tree_definitions.specs.Cover.{Pair, Post}
 use Rattle.tree_definitions.specs.Relation.{Relation, Places, Row, IsAt}
 use Rattle.tree_definitions.specs.UpCert.{IsCoveredUp, AreListed}
 use Rattle.tree_definitions.proofs.Members.{at_unique, contains_at, place_of}
-use Rattle.trim_ops.proofs.SameRules.{rule_in}
+use Rattle.tree_definitions.proofs.InOrder.{rule_in}
+use Rattle.tree_definitions.proofs.Listing.{rule_parts}
 use Rattle.up_conditions.specs.Listed.{IsCoveredElsewhere}
 use Rattle.up_conditions.specs.Covering.{AllBefore, IsOfPart, IsPartCovered}
 
@@ -50,18 +51,18 @@ before_next xs Kind i x all at h j y l jat = ⊎_elim
     (λ (d : j ≢ i). all j y (omega arith) jat)
     (cases_eq j i)
 
-pub leaves_covered : (A B : Automaton) (RA RB : Relation) (X : List Pair) → All (IsPartCovered true A.symbols B RA RB X) (canon A).rules
-    → (a : Symbol) (p : ℕ) → HasRule A a [] p → IsCoveredUp RA RB X p (Post B a [])
-unfolding IsRule IsLabel
-leaves_covered A B RA RB X all a p has =
-    let h = rule_in A a [] p has in
-    let line : Rule = record { symbol = h.1.0; kids = []; parent = p } in
-    All-contains (IsPartCovered true A.symbols B RA RB X) (canon A).rules line all (contains_at (canon A).rules h.0 line h.1.2) refl a h.1.1 [] tt
+module _ (A B : Automaton) (RA RB : Relation) (X : List Pair) where
+  pub leaves_covered : All (IsPartCovered true (canon A) B RA RB X) (canon A).rules → (a : Symbol) (p : ℕ) → HasRule A a [] p → IsCoveredUp RA RB X p (Post B a [])
+  leaves_covered all a p has =
+      let h = rule_in A a [] p has in
+      let parts = rule_parts (canon A) h.0 a [] p h.1 in
+      let line : Rule = record { symbol = parts.0; kids = []; parent = p } in
+      All-contains (IsPartCovered true (canon A) B RA RB X) (canon A).rules line all (contains_at (canon A).rules h.0 line parts.2) refl a parts.1 [] tt
 
-pub steps_covered : (A B : Automaton) (RA RB : Relation) (X : List Pair) → All (IsPartCovered false A.symbols B RA RB X) (canon A).rules
-    → (a : Symbol) (q : ℕ) (qs : List ℕ) (p : ℕ) → HasRule A a (q ∷ qs) p → (sets : List Row) → AreListed X (q ∷ qs) sets → IsCoveredUp RA RB X p (Post B a sets)
-unfolding IsRule IsLabel
-steps_covered A B RA RB X all a q qs p has =
-    let h = rule_in A a (q ∷ qs) p has in
-    let line : Rule = record { symbol = h.1.0; kids = q ∷ qs; parent = p } in
-    All-contains (IsPartCovered false A.symbols B RA RB X) (canon A).rules line all (contains_at (canon A).rules h.0 line h.1.2) (λ e. absurd cc) a h.1.1
+  pub steps_covered : All (IsPartCovered false (canon A) B RA RB X) (canon A).rules
+      → (a : Symbol) (q : ℕ) (qs : List ℕ) (p : ℕ) → HasRule A a (q ∷ qs) p → (sets : List Row) → AreListed X (q ∷ qs) sets → IsCoveredUp RA RB X p (Post B a sets)
+  steps_covered all a q qs p has =
+      let h = rule_in A a (q ∷ qs) p has in
+      let parts = rule_parts (canon A) h.0 a (q ∷ qs) p h.1 in
+      let line : Rule = record { symbol = parts.0; kids = q ∷ qs; parent = p } in
+      All-contains (IsPartCovered false (canon A) B RA RB X) (canon A).rules line all (contains_at (canon A).rules h.0 line parts.2) (λ e. absurd cc) a parts.1

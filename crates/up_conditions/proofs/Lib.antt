@@ -1,6 +1,5 @@
 pub mod Grouped
 pub mod Named
-pub mod Others
 pub mod Rejecting
 pub mod Simulating
 pub mod Searched

@@ -5,9 +5,11 @@ use Rattle.std.proofs.lemmas.Bool.{cases_lt}
 use Rattle.std.proofs.lemmas.List.Elements.{All-contains}
 use Rattle.std.proofs.lemmas.Option.{slice_get_within}
 use Rattle.tree_definitions.specs.Tree.{Symbol}
-use Rattle.tree_definitions.specs.Automaton.{Automaton, Rule, IsAutomaton, FitsRule}
+use Rattle.tree_definitions.specs.Automaton.{Automaton, Rule, IsLabel, FitsRule}
 use Rattle.tree_definitions.specs.Relation.{Row, Has, IsAt}
+use Rattle.tree_definitions.proofs.Listing.{at_label, label_at}
 use Rattle.tree_definitions.proofs.Members.{at_unique, contains_at}
+use Rattle.ta_model.specs.Listing.{IsListed}
 use Rattle.trim_ops.specs.Marking.{IsWithin}
 use Rattle.up_conditions.specs.Choosing.{AreOpen, HasKidIn}
 use Rattle.up_conditions.specs.Stepping.{AreListsOf, AreUnder, IsPlaceOf, IsUnder, IsUnderFrom, StepLists, first_kid}
@@ -62,15 +64,15 @@ module _ (B : Automaton) (lists : StepLists) (are : AreListsOf B lists) where
     )
 
 -- the rules under a symbol are those that are open at the start
-pub under_open : (B : Automaton) → IsAutomaton B → (a : Symbol) (k : ℕ) (list : List ℕ) → IsPlaceOf B.symbols a k → AreUnder B.rules k list → AreOpen B a [] list
-under_open B fits a k list place under = record {
+pub under_open : (B : Automaton) → IsListed B → (a : Symbol) (k : ℕ) (list : List ℕ) → IsPlaceOf B.symbols a k → AreUnder B.rules k list → AreOpen B a [] list
+under_open B listed a k list place under = record {
   within = λ r m.
       let u = (under r).0 m in
-      let f = All-contains (FitsRule B) B.rules u.0 fits.fitting (contains_at B.rules r u.0 u.1) in
+      let f = All-contains (FitsRule B) B.rules u.0 listed.automaton.fitting (contains_at B.rules r u.0 u.1) in
       let w = slice_get_within B.symbols u.0.symbol f.symbol.0 f.symbol.1 in
       let its = u.2 in
-      (u.0, u.1, subst (λ i. IsAt B.symbols i a) (sym its) (place.here (omega (arith, w, its))), no_sets_begin u.0.kids);
-  whole = λ r rule at label begin. (under r).1 (rule, at, place.only rule.symbol label);
+      (u.0, u.1, subst (λ i. IsLabel B i a) (sym its) (label_at B k a listed.narrow (place.here (omega (arith, w, its)))), no_sets_begin u.0.kids);
+  whole = λ r rule at label begin. (under r).1 (rule, at, place.only rule.symbol (at_label B rule.symbol a listed.narrow label));
 }
 
 -- those with the first child in a set, looked up by it

@@ -2,21 +2,20 @@
 use Rattle.std.proofs.Common.{◌≡◌, ◌≢◌, ◌↔◌, inl, inr, ⊎_elim, ◌+◌, set, ℕ, suc, ◌<◌, ◌≤◌, Some, Bool, true, false, List, [], ◌∷◌, ◌++◌, length, get_or, map, refl, sym, ap, ◌∙◌, subst, arith}
 use Rattle.std.specs.Prelude.{All, Contains}
 use Rattle.std.specs.List.{AllZip}
-use Rattle.std.proofs.lemmas.List.Elements.{All-contains, All-head, All-tail, Contains-push_cases}
-use Rattle.std.proofs.lemmas.Option.{slice_get-get_or, slice_get_within}
+use Rattle.std.proofs.lemmas.List.Elements.{All-head, All-tail, Contains-push_cases}
+use Rattle.std.proofs.lemmas.Option.{slice_get-get_or}
 use Rattle.std.proofs.lemmas.Bool.{cases_eq}
 use Rattle.up_conditions.proofs.Grouped.{at_set, filing_add}
-use Rattle.listed_pairs.specs.Places.{IsFirst, IsNth}
-use Rattle.listed_pairs.proofs.Firsts.{first_weaker}
 use Rattle.tree_definitions.specs.Tree.{Symbol}
-use Rattle.tree_definitions.specs.Automaton.{Automaton, Rule, IsAutomaton, IsLabel, IsRule, HasRule}
-use Rattle.tree_definitions.specs.Cover.{Pair, Post}
-use Rattle.tree_definitions.specs.Relation.{Row, Has, IsAt, AreEqual}
-use Rattle.tree_definitions.specs.UpTrail.{UpEntry, HasPairBefore, IsUpStep}
-use Rattle.tree_definitions.proofs.Listing.{label_at, rule_of_line}
+use Rattle.tree_definitions.specs.Automaton.{Automaton, Rule, HasRule}
+use Rattle.tree_definitions.specs.Cover.{Pair}
+use Rattle.tree_definitions.specs.Relation.{Row, Has, IsAt}
+use Rattle.tree_definitions.specs.UpTrail.{UpEntry, HasPairBefore}
+use Rattle.tree_definitions.proofs.Determined.{one_place}
+use Rattle.tree_definitions.proofs.Listing.{at_label, label_at, rule_of_line, rule_parts}
+use Rattle.ta_model.specs.Listing.{IsListed}
 use Rattle.tree_definitions.proofs.Members.{at_unique, at_within, contains_at, place_of}
-use Rattle.up_conditions.proofs.Others.{at_distinct}
-use Rattle.up_conditions.specs.Trailing.{AllAtBefore, AreFiledBefore, HasSetAt, HasStateAt, IsNthAt, IsStepBy, NameEarlier}
+use Rattle.up_conditions.specs.Trailing.{AllAtBefore, AreFiledBefore, HasSetAt, HasStateAt}
 
 pub zip_none : {X Y : Type 0} (R : X → Y → Type 0) (ys : List Y) → AllZip R [] ys → ys ≡ []
 zip_none R [] z = refl
@@ -60,20 +59,6 @@ module _ (entries : List UpEntry) where
   pub same_sets : (kids : List ℕ) (xs ys : List Row) → AllZip (HasSetAt entries) kids xs → AllZip (HasSetAt entries) kids ys → xs ≡ ys
   same_sets = zip_same (HasSetAt entries) (λ k p q h g. sym h.2 ∙ ap (λ (e : UpEntry). e.pair.set) (at_unique entries k h.0 g.0 h.1 g.1) ∙ g.2)
 
-  pub sets_at : (kids : List ℕ) → All (λ k. k < length entries) kids → (sets : List Row) × AllZip (HasSetAt entries) kids sets
-  sets_at [] within = ([], tt)
-  sets_at (k ∷ ks) within =
-      let e = at_within entries k (All-head (λ i. i < length entries) k ks within) in
-      let rest = sets_at ks (All-tail (λ i. i < length entries) k ks within) in
-      (e.0.pair.set ∷ rest.0, ((e.0, e.1, refl), rest.1))
-
-  pub states_all : (kids : List ℕ) → All (λ k. k < length entries) kids → (states : List ℕ) × AllZip (HasStateAt entries) kids states
-  states_all [] within = ([], tt)
-  states_all (k ∷ ks) within =
-      let e = at_within entries k (All-head (λ i. i < length entries) k ks within) in
-      let rest = states_all ks (All-tail (λ i. i < length entries) k ks within) in
-      (e.0.pair.state ∷ rest.0, ((e.0, e.1, refl), rest.1))
-
   module _ (i : ℕ) where
     pub pairs_before : (kids : List ℕ) → i ≤ length entries → All (λ k. k < i) kids → (pairs : List Pair) × AllZip (HasPairBefore entries i) kids pairs
     pairs_before [] whole early = ([], tt)
@@ -95,61 +80,23 @@ module _ (entries : List UpEntry) where
     sets_of (k ∷ ks) [] z = absurd z
     sets_of (k ∷ ks) (x ∷ xs) z = let e = z.0.1 in ((e.0, e.1, ap (λ (o : Pair). o.set) e.2), sets_of ks xs z.1)
 
-module _ (A B : Automaton) (fits : IsAutomaton A) (rules : List Rule) (same : (rule : Rule) → Contains rules rule ↔ Contains A.rules rule) (entries : List UpEntry) (i : ℕ) (entry : UpEntry) where
-  pub step_by : IsUpStep A B entries i entry → IsStepBy A.symbols rules B entries entry
-  unfolding IsRule IsLabel
-  step_by h =
-      let states = map (λ (pair : Pair). pair.state) h.pairs in
-      let r = h.rule.0 in
-      let k = h.rule.1.0 in
-      let once : k ≡ entry.symbol = at_distinct A.symbols k entry.symbol h.symbol fits.symbols h.rule.1.1 h.stands in
-      let line : Contains A.rules (record { symbol = k; kids = states; parent = entry.pair.state }) = contains_at A.rules r (record { symbol = k; kids = states; parent = entry.pair.state }) h.rule.1.2 in
-      record {
-        states = states;
-        sets = map (λ (pair : Pair). pair.set) h.pairs;
-        symbol = h.symbol;
-        have_states = states_of entries i entry.kids h.pairs h.named;
-        have_sets = sets_of entries i entry.kids h.pairs h.named;
-        label = h.stands;
-        rule = (same (record { symbol = entry.symbol; kids = states; parent = entry.pair.state })).1 (subst (λ n. Contains A.rules (record { symbol = n; kids = states; parent = entry.pair.state })) once line);
-        set = h.set;
-      }
+-- in a narrow automaton its rules under a symbol are its lines with the symbol's place
+module _ (A : Automaton) (listed : IsListed A) (rules : List Rule) (same : (rule : Rule) → Contains rules rule ↔ Contains A.rules rule)
+    (k : ℕ) (a : Symbol) (at : IsAt A.symbols k a) (kids : List ℕ) (parent : ℕ) where
+  abbrev line : Rule
+  line = record { symbol = k; kids = kids; parent = parent }
 
-  pub by_step : i ≤ length entries → All (λ k. k < i) entry.kids → IsStepBy A.symbols rules B entries entry → IsUpStep A B entries i entry
-  by_step whole early h =
-      let p = pairs_before entries i entry.kids whole early in
-      let states : h.states ≡ map (λ (pair : Pair). pair.state) p.0 = same_states entries entry.kids h.states (map (λ (pair : Pair). pair.state) p.0) h.have_states (states_of entries i entry.kids p.0 p.1) in
-      let sets : h.sets ≡ map (λ (pair : Pair). pair.set) p.0 = same_sets entries entry.kids h.sets (map (λ (pair : Pair). pair.set) p.0) h.have_sets (sets_of entries i entry.kids p.0 p.1) in
-      let line : Rule = record { symbol = entry.symbol; kids = h.states; parent = entry.pair.state } in
-      let stands = label_at A entry.symbol h.symbol h.label in
-      let r = place_of A.rules line ((same line).0 h.rule) in
-      let has : HasRule A h.symbol h.states entry.pair.state = (r.0, rule_of_line A r.0 line h.symbol r.1 stands) in
-      record {
-        symbol = h.symbol;
-        stands = stands;
-        pairs = p.0;
-        named = p.1;
-        rule = subst (λ (qs : List ℕ). HasRule A h.symbol qs entry.pair.state) states has;
-        set = subst (λ (Ps : List Row). AreEqual (Has entry.pair.set) (Post B h.symbol Ps)) sets h.set;
-      }
+  pub rule_of_listed : Contains rules (record { symbol = k; kids = kids; parent = parent }) → HasRule A a kids parent
+  rule_of_listed m =
+      let r = place_of A.rules line ((same line).0 m) in
+      (r.0, rule_of_line A r.0 line a r.1 (label_at A k a listed.narrow at))
 
-module _ (A B : Automaton) (fits : IsAutomaton A) (rules : List Rule) (same : (rule : Rule) → Contains rules rule ↔ Contains A.rules rule) (symbols : List Symbol) (is : symbols ≡ A.symbols)
-    (entries : List UpEntry) (named : NameEarlier entries) where
-  step_at : (i : ℕ) (entry : UpEntry) → IsAt entries i entry → IsStepBy symbols rules B entries entry → IsUpStep A B entries i entry
-  step_at i entry at h =
-      let w = slice_get_within entries i entry at in
-      by_step A B fits rules same entries i entry (omega (arith, w)) (named i entry at) (subst (λ (ss : List Symbol). IsStepBy ss rules B entries entry) is h)
-
-  step_here : (i : ℕ) (entry : UpEntry) → IsUpStep A B entries i entry → IsStepBy symbols rules B entries entry
-  step_here i entry h = subst (λ (ss : List Symbol). IsStepBy ss rules B entries entry) (sym is) (step_by A B fits rules same entries i entry h)
-
-  pub all_steps : All (IsStepBy symbols rules B entries) entries → (i : ℕ) (entry : UpEntry) → IsAt entries i entry → IsUpStep A B entries i entry
-  all_steps all i entry at = step_at i entry at (All-contains (IsStepBy symbols rules B entries) entries entry all (contains_at entries i entry at))
-
-  pub first_no_step : (n : ℕ) → IsFirst (IsNth entries (λ e. ¬ IsStepBy symbols rules B entries e)) n → IsFirst (IsNthAt entries (λ i entry. ¬ IsUpStep A B entries i entry)) n
-  first_no_step = first_weaker (IsNth entries (λ e. ¬ IsStepBy symbols rules B entries e)) (IsNthAt entries (λ i entry. ¬ IsUpStep A B entries i entry))
-      (λ n h. (h.0, h.1, h.2, h.3, λ up. h.4 (step_here h.0 h.1 up)))
-      (λ n h. (h.0, h.1, h.2, h.3, λ st. h.4 (step_at h.0 h.1 h.3 st)))
+  pub listed_of_rule : HasRule A a kids parent → Contains rules (record { symbol = k; kids = kids; parent = parent })
+  listed_of_rule h =
+      let parts = rule_parts A h.0 a kids parent h.1 in
+      let once : parts.0 ≡ k = one_place A.symbols listed.automaton.symbols parts.0 k a (at_label A parts.0 a listed.narrow parts.1) at in
+      let there : Contains A.rules (record { symbol = parts.0; kids = kids; parent = parent }) = contains_at A.rules h.0 (record { symbol = parts.0; kids = kids; parent = parent }) parts.2 in
+      (same line).1 (subst (λ n. Contains A.rules (record { symbol = n; kids = kids; parent = parent })) once there)
 
 pub all_at_next : {X : Type 0} (xs : List X) (Kind : ℕ → X → Type 0) (i : ℕ) (x : X) → AllAtBefore xs Kind i → IsAt xs i x → Kind i x → AllAtBefore xs Kind (i + 1)
 all_at_next xs Kind i x all at h j y l jat = ⊎_elim

@@ -1,7 +1,7 @@
 -- Steps from listed pairs, chosen one child after the other.
 use Rattle.std.specs.Prelude.{◌≡◌, ◌<◌, ℕ, List, [], ◌∷◌, ◌++◌, Contains, length}
 use Rattle.tree_definitions.specs.Tree.{Symbol}
-use Rattle.tree_definitions.specs.Automaton.{Automaton, Rule}
+use Rattle.tree_definitions.specs.Automaton.{Automaton, Rule, IsLabel}
 use Rattle.tree_definitions.specs.Cover.{Pair, Post}
 use Rattle.tree_definitions.specs.Relation.{Relation, Row, Has, IsAt}
 use Rattle.tree_definitions.specs.UpCert.{IsCoveredUp}
@@ -12,8 +12,8 @@ BeginIn sets kids = (i : ℕ) (P : Row) → IsAt sets i P → (q : ℕ) × IsAt 
 
 -- these are the places of B's rules under the symbol whose first children are in the sets
 pub record AreOpen (B : Automaton) (a : Symbol) (sets : List Row) (list : List ℕ) : Type 0 where
-  pub within : (r : ℕ) → Contains list r → (rule : Rule) × IsAt B.rules r rule × IsAt B.symbols rule.symbol a × BeginIn sets rule.kids
-  pub whole : (r : ℕ) (rule : Rule) → IsAt B.rules r rule → IsAt B.symbols rule.symbol a → BeginIn sets rule.kids → Contains list r
+  pub within : (r : ℕ) → Contains list r → (rule : Rule) × IsAt B.rules r rule × IsLabel B rule.symbol a × BeginIn sets rule.kids
+  pub whole : (r : ℕ) (rule : Rule) → IsAt B.rules r rule → IsLabel B rule.symbol a → BeginIn sets rule.kids → Contains list r
 
 -- the child at this place of the rule at place r is in the set
 abbrev pub HasKidIn : List Rule → ℕ → Row → ℕ → Type 0

@@ -9,10 +9,6 @@ pub record RejectsBy (left right : Row) (pair : Pair) : Type 0 where
   pub final : Has left pair.state
   pub none : (s : ℕ) → Has pair.set s → Has right s → ⊥
 
--- another listed pair covers the pair
-abbrev pub IsCovered : Relation → Relation → List Pair → Pair → Type 0
-IsCovered RA RB pairs x = (y : Pair) × Contains pairs y × (y ≢ x) × CoversUp RA RB y x.state (Has x.set)
-
 -- a pair at a place of this list, and another place than this one, has its set below P
 abbrev pub IsCoveredIn : Relation → List Pair → List ℕ → ℕ → Places → Type 0
 IsCoveredIn RB pairs list skip P = (k : ℕ) × (pair : Pair) × Contains list k × (k ≢ skip) × IsAt pairs k pair × Below RB (Has pair.set) P
@@ -20,6 +16,10 @@ IsCoveredIn RB pairs list skip P = (k : ℕ) × (pair : Pair) × Contains list k
 -- a pair at another place than this one covers p with the set P
 abbrev pub IsCoveredElsewhere : Relation → Relation → List Pair → ℕ → ℕ → Places → Type 0
 IsCoveredElsewhere RA RB pairs skip p P = (j : ℕ) × (pair : Pair) × (j ≢ skip) × IsAt pairs j pair × CoversUp RA RB pair p P
+
+-- a pair at another place covers this one, which stands at place i
+abbrev pub IsCovered : Relation → Relation → List Pair → ℕ → Pair → Type 0
+IsCovered RA RB pairs i x = IsCoveredElsewhere RA RB pairs i x.state (Has x.set)
 
 -- for each number, the places of the items with this key
 pub record AreFiled {X : Type 0} (key : X → ℕ) (items : List X) (lists : List (List ℕ)) : Type 0 where

@@ -1,17 +1,11 @@
 -- Entries of an upward trail, by their places.
-use Rattle.std.specs.Prelude.{◌≡◌, ℕ, suc, ◌<◌, List, All, Contains}
-use Rattle.std.specs.List.{AllZip}
-use Rattle.tree_definitions.specs.Tree.{Symbol}
-use Rattle.tree_definitions.specs.Automaton.{Automaton, Rule}
-use Rattle.tree_definitions.specs.Cover.{FitsPair, Post, Rejects, CoversUp}
-use Rattle.tree_definitions.specs.Relation.{Relation, Places, Row, Has, IsAt, AreEqual, Below}
+use Rattle.std.specs.Prelude.{◌≡◌, ℕ, ◌<◌, List, All, Contains}
+use Rattle.tree_definitions.specs.Automaton.{Automaton}
+use Rattle.tree_definitions.specs.Cover.{FitsPair, Rejects, CoversUp}
+use Rattle.tree_definitions.specs.Relation.{Relation, Places, Row, Has, IsAt, Below}
 use Rattle.tree_definitions.specs.UpTrail.{UpEntry}
 use Rattle.listed_pairs.specs.Within.{IsWithin}
 use Rattle.up_conditions.specs.Listed.{Filing}
-
--- the n-th item of the list, counted from 1, is of this kind at its place, counted from 0
-abbrev pub IsNthAt : {X : Type 0} → List X → (ℕ → X → Type 0) → Places
-IsNthAt {X} xs Kind n = (i : ℕ) × (x : X) × (n ≡ suc i) × IsAt xs i x × Kind i x
 
 -- each item before place n is of this kind at its place
 abbrev pub AllAtBefore : {X : Type 0} → List X → (ℕ → X → Type 0) → ℕ → Type 0
@@ -36,17 +30,6 @@ HasStateAt entries k q = (e : UpEntry) × IsAt entries k e × (e.pair.state ≡ 
 -- P is the set of the entry at place k
 abbrev pub HasSetAt : List UpEntry → ℕ → Row → Type 0
 HasSetAt entries k P = (e : UpEntry) × IsAt entries k e × (e.pair.set ≡ P)
-
--- a rule leads from the states of the named entries to the entry's state, and the step of B from their sets is its set
-pub record IsStepBy (symbols : List Symbol) (rules : List Rule) (B : Automaton) (entries : List UpEntry) (entry : UpEntry) : Type 0 where
-  pub states : List ℕ
-  pub sets : List Row
-  pub symbol : Symbol
-  pub have_states : AllZip (HasStateAt entries) entry.kids states
-  pub have_sets : AllZip (HasSetAt entries) entry.kids sets
-  pub label : IsAt symbols entry.symbol symbol
-  pub rule : Contains rules (record { symbol = entry.symbol; kids = states; parent = entry.pair.state })
-  pub set : AreEqual (Has entry.pair.set) (Post B symbol sets)
 
 -- the entry's pair rejects
 abbrev pub RejectsEntry : Automaton → Automaton → UpEntry → Type 0

@@ -1,11 +1,11 @@
 //! Which pairs others cover.
 
-ghost use Rattle.std.specs.Prelude.{◌≡◌, ◌≢◌, ◌<◌, AllPairs, Contains, IfNone, IfOk, IfSome, length};
+ghost use Rattle.std.specs.Prelude.{◌≡◌, ◌≢◌, ◌<◌, ℕ, IfNone, IfOk, IfSome, length};
 ghost use Rattle.tree_definitions.specs.Cover.{Pair, CoversUp};
-ghost use Rattle.tree_definitions.specs.Relation.{Has, Holds};
+ghost use Rattle.tree_definitions.specs.Relation.{Has, Holds, IsAt};
 ghost use Rattle.up_conditions.specs.Listed.{AreByState, IsCovered};
 ghost use Rattle.listed_pairs.specs.Within.{AreWithin};
-ghost use Rattle.listed_pairs.specs.Places.{IsFirst, IsNth};
+ghost use Rattle.listed_pairs.specs.Places.{IsFirst, IsNthAt};
 
 use crate::by_state::{is_covered, pairs_by_state};
 use bit_matrix::Matrix;
@@ -13,7 +13,7 @@ use listed_pairs::Pair;
 use std::alloc::{AllocError, Global};
 use trim_ops::RuleIndex;
 
-/// The first pair that another one covers.
+/// The first pair that the pair at another place covers.
 fn first_by_index(
     left: &Matrix,
     right: &Matrix,
@@ -22,11 +22,10 @@ fn first_by_index(
 ) -> Option<u32>
     requires within { AreWithin (length left.now) (length right.now) pairs.now }
     requires few { length pairs.now < 4294967295 }
-    requires distinct { AllPairs ◌≢◌ pairs.now }
     requires by_state { AreByState pairs.now by_state.now }
     requires index { length by_state.now ≡ length left.now }
-    ensures none { IfNone result ((x y : Pair) → Contains pairs.now x → Contains pairs.now y → x ≢ y → CoversUp (Holds left.now) (Holds right.now) x y.state (Has y.set) → ⊥) }
-    ensures some { IfSome result (IsFirst (IsNth pairs.now (IsCovered (Holds left.now) (Holds right.now) pairs.now))) }
+    ensures none { IfNone result ((i j : ℕ) (x y : Pair) → i ≢ j → IsAt pairs.now i x → IsAt pairs.now j y → CoversUp (Holds left.now) (Holds right.now) x y.state (Has y.set) → ⊥) }
+    ensures some { IfSome result (IsFirst (IsNthAt pairs.now (IsCovered (Holds left.now) (Holds right.now) pairs.now))) }
 {
     for at in 0..pairs.len() {
         let pair = &pairs[at];
@@ -45,7 +44,7 @@ fn first_by_index(
     None
 }
 
-/// The place of the first pair that another one covers, by relations of A and of B.
+/// The place of the first pair that the pair at another place covers, by relations of A and of B.
 pub fn first_covered(
     alloc: Global,
     left: &Matrix,
@@ -54,9 +53,8 @@ pub fn first_covered(
 ) -> Result<Option<u32>, AllocError>
     requires within { AreWithin (length left.now) (length right.now) pairs.now }
     requires few { length pairs.now < 4294967295 }
-    requires distinct { AllPairs ◌≢◌ pairs.now }
-    ensures none { IfOk result (λ first. IfNone first ((x y : Pair) → Contains pairs.now x → Contains pairs.now y → x ≢ y → CoversUp (Holds left.now) (Holds right.now) x y.state (Has y.set) → ⊥)) }
-    ensures some { IfOk result (λ first. IfSome first (IsFirst (IsNth pairs.now (IsCovered (Holds left.now) (Holds right.now) pairs.now)))) }
+    ensures none { IfOk result (λ first. IfNone first ((i j : ℕ) (x y : Pair) → i ≢ j → IsAt pairs.now i x → IsAt pairs.now j y → CoversUp (Holds left.now) (Holds right.now) x y.state (Has y.set) → ⊥)) }
+    ensures some { IfOk result (λ first. IfSome first (IsFirst (IsNthAt pairs.now (IsCovered (Holds left.now) (Holds right.now) pairs.now)))) }
 {
     let by_state = pairs_by_state(alloc, pairs, left.size())?;
     Ok(first_by_index(left, right, pairs, &by_state))

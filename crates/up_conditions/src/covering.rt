@@ -26,7 +26,7 @@ use trim_ops::RuleIndex;
 /// Whether listed pairs cover each step of the rule from listed pairs for its children.
 fn rule_is_covered(
     alloc: Global,
-    symbols: &[Symbol],
+    a: &Listed,
     b: &Listed,
     steps: &StepIndex,
     left: &Matrix,
@@ -41,10 +41,10 @@ fn rule_is_covered(
     requires by_state { AreByState pairs.now by_state.now }
     requires index { length by_state.now ≡ length left.now }
     requires rule { marking.IsWithin (length left.now) rule.now }
-    requires label { rule.now.symbol < length symbols.now }
-    ensures { IfOk result (λ yes. IsTrue yes ↔ IsRuleCovered symbols.now b.now (Holds left.now) (Holds right.now) pairs.now rule.now) }
+    requires label { rule.now.symbol < length a.now.symbols }
+    ensures { IfOk result (λ yes. IsTrue yes ↔ IsRuleCovered a.now b.now (Holds left.now) (Holds right.now) pairs.now rule.now) }
 {
-    let symbol = steps.place_of(b, &symbols[rule.symbol as usize]);
+    let symbol = steps.place_of(b, &a.symbols()[rule.symbol as usize]);
     let places = steps.under(b, symbol);
     let kids = rule.kids.as_slice();
     // The number of children tells the proof that their places fit.
@@ -77,7 +77,7 @@ fn is_of_part(rule: &Rule, leaves: bool) -> bool
 fn part_is_covered(
     alloc: Global,
     leaves: bool,
-    symbols: &[Symbol],
+    a: &Listed,
     b: &Listed,
     steps: &StepIndex,
     left: &Matrix,
@@ -92,20 +92,20 @@ fn part_is_covered(
     requires by_state { AreByState pairs.now by_state.now }
     requires index { length by_state.now ≡ length left.now }
     requires rule { marking.IsWithin (length left.now) rule.now }
-    requires label { rule.now.symbol < length symbols.now }
-    ensures { IfOk result (λ yes. IsTrue yes ↔ IsPartCovered leaves symbols.now b.now (Holds left.now) (Holds right.now) pairs.now rule.now) }
+    requires label { rule.now.symbol < length a.now.symbols }
+    ensures { IfOk result (λ yes. IsTrue yes ↔ IsPartCovered leaves a.now b.now (Holds left.now) (Holds right.now) pairs.now rule.now) }
 {
     if !is_of_part(rule, leaves) {
         return Ok(true);
     }
-    rule_is_covered(alloc, symbols, b, steps, left, right, pairs, by_state, rule)
+    rule_is_covered(alloc, a, b, steps, left, right, pairs, by_state, rule)
 }
 
 /// The first rule without children, or with some, that isn't covered.
 fn first_of_part(
     alloc: Global,
     leaves: bool,
-    symbols: &[Symbol],
+    a: &Listed,
     rules: &[Rule],
     b: &Listed,
     steps: &StepIndex,
@@ -120,15 +120,15 @@ fn first_of_part(
     requires by_state { AreByState pairs.now by_state.now }
     requires index { length by_state.now ≡ length left.now }
     requires rules { marking.AreWithin (length left.now) rules.now }
-    requires labels { AreLabelled (length symbols.now) rules.now }
+    requires labels { AreLabelled (length a.now.symbols) rules.now }
     requires few { length rules.now < 4294967295 }
-    ensures none { IfOk result (λ first. IfNone first (All (IsPartCovered leaves symbols.now b.now (Holds left.now) (Holds right.now) pairs.now) rules.now)) }
-    ensures some { IfOk result (λ first. IfSome first (IsFirst (IsNth rules.now (IsUncoveredPart leaves symbols.now b.now (Holds left.now) (Holds right.now) pairs.now)))) }
+    ensures none { IfOk result (λ first. IfNone first (All (IsPartCovered leaves a.now b.now (Holds left.now) (Holds right.now) pairs.now) rules.now)) }
+    ensures some { IfOk result (λ first. IfSome first (IsFirst (IsNth rules.now (IsUncoveredPart leaves a.now b.now (Holds left.now) (Holds right.now) pairs.now)))) }
 {
     for i in 0..rules.len() {
         let rule = &rules[i];
         match part_is_covered(
-            alloc, leaves, symbols, b, steps, left, right, pairs, by_state, rule,
+            alloc, leaves, a, b, steps, left, right, pairs, by_state, rule,
         ) {
             Ok(true) => {}
             Ok(false) => return Ok(Some(i as u32 + 1)),
@@ -153,8 +153,8 @@ fn first_uncovered(
     requires right { length right.now ≡ length b.now.states }
     requires fits { All (FitsPair a.now b.now) pairs.now }
     requires few { length pairs.now < 4294967295 }
-    ensures none { IfOk result (λ first. IfNone first (All (IsPartCovered leaves a.now.symbols b.now (Holds left.now) (Holds right.now) pairs.now) (canon a.now).rules)) }
-    ensures some { IfOk result (λ first. IfSome first (IsFirst (IsNth (canon a.now).rules (IsUncoveredPart leaves a.now.symbols b.now (Holds left.now) (Holds right.now) pairs.now)))) }
+    ensures none { IfOk result (λ first. IfNone first (All (IsPartCovered leaves (canon a.now) b.now (Holds left.now) (Holds right.now) pairs.now) (canon a.now).rules)) }
+    ensures some { IfOk result (λ first. IfSome first (IsFirst (IsNth (canon a.now).rules (IsUncoveredPart leaves (canon a.now) b.now (Holds left.now) (Holds right.now) pairs.now)))) }
 {
     let ours = a.canon()?;
     let steps = StepIndex::of(alloc, b)?;
@@ -162,7 +162,7 @@ fn first_uncovered(
     first_of_part(
         alloc,
         leaves,
-        ours.symbols(),
+        &ours,
         ours.rules(),
         b,
         &steps,
@@ -188,7 +188,7 @@ pub fn first_uncovered_leaf(
     requires fits { All (FitsPair a.now b.now) pairs.now }
     requires few { length pairs.now < 4294967295 }
     ensures none { IfOk result (λ first. IfNone first ((x : Symbol) (p : ℕ) → HasRule a.now x [] p → IsCoveredUp (Holds left.now) (Holds right.now) pairs.now p (Post b.now x []))) }
-    ensures some { IfOk result (λ first. IfSome first (IsFirst (IsNth (canon a.now).rules (IsUncoveredLeaf a.now.symbols b.now (Holds left.now) (Holds right.now) pairs.now)))) }
+    ensures some { IfOk result (λ first. IfSome first (IsFirst (IsNth (canon a.now).rules (IsUncoveredLeaf (canon a.now) b.now (Holds left.now) (Holds right.now) pairs.now)))) }
 {
     first_uncovered(alloc, true, a, b, left, right, pairs)
 }
@@ -208,7 +208,7 @@ pub fn first_uncovered_rule(
     requires fits { All (FitsPair a.now b.now) pairs.now }
     requires few { length pairs.now < 4294967295 }
     ensures none { IfOk result (λ first. IfNone first ((x : Symbol) (q : ℕ) (qs : List ℕ) (p : ℕ) → HasRule a.now x (q ∷ qs) p → (sets : List Row) → AreListed pairs.now (q ∷ qs) sets → IsCoveredUp (Holds left.now) (Holds right.now) pairs.now p (Post b.now x sets))) }
-    ensures some { IfOk result (λ first. IfSome first (IsFirst (IsNth (canon a.now).rules (IsUncoveredStep a.now.symbols b.now (Holds left.now) (Holds right.now) pairs.now)))) }
+    ensures some { IfOk result (λ first. IfSome first (IsFirst (IsNth (canon a.now).rules (IsUncoveredStep (canon a.now) b.now (Holds left.now) (Holds right.now) pairs.now)))) }
 {
     first_uncovered(alloc, false, a, b, left, right, pairs)
 }

@@ -4,8 +4,8 @@ ghost use Rattle.std.specs.Prelude.{◌≡◌, ◌<◌, ◌↔◌, ℕ, All, IfN
 ghost use Rattle.tree_definitions.specs.Cover.{CoversUp};
 ghost use Rattle.tree_definitions.specs.Relation.{Has, Holds, IsAt};
 ghost use Rattle.tree_definitions.specs.UpTrail.{UpEntry as UpEntrySpec};
-ghost use Rattle.listed_pairs.specs.Places.{IsFirst};
-ghost use Rattle.up_conditions.specs.Trailing.{AreEntriesWithin, AreFiledBefore, IsCoveredBefore, IsCoveredEntry, IsCoveredFrom, IsNthAt};
+ghost use Rattle.listed_pairs.specs.Places.{IsFirst, IsNthAt};
+ghost use Rattle.up_conditions.specs.Trailing.{AreEntriesWithin, AreFiledBefore, IsCoveredBefore, IsCoveredEntry, IsCoveredFrom};
 
 use crate::entry::pair_of;
 use bit_matrix::Matrix;

@@ -3,11 +3,13 @@
 ghost use Rattle.std.specs.Prelude.{◌≡◌, ◌<◌, ◌+◌, ◌++◌, ◌^◌, ◌↔◌, [], ℕ, List, All, Contains, IsTrue, IfOk, length};
 ghost use Rattle.std.specs.List.{AllZip};
 ghost use Rattle.tree_definitions.specs.Tree.{Symbol};
+ghost use Rattle.tree_definitions.specs.Automaton.{Rule as RuleSpec};
 ghost use Rattle.tree_definitions.specs.Cover.{Post};
-ghost use Rattle.tree_definitions.specs.Relation.{Has, Row};
+ghost use Rattle.tree_definitions.specs.Relation.{Has, IsAt, Row};
+ghost use Rattle.tree_definitions.specs.UpTrail.{IsUpStep, UpEntry as UpEntrySpec};
 ghost use Rattle.up_conditions.specs.Choosing.{AreOpen};
 ghost use Rattle.up_conditions.specs.Stepping.{AreListsOf, AreUnder};
-ghost use Rattle.up_conditions.specs.Trailing.{HasSetAt, HasStateAt, IsStepBy};
+ghost use Rattle.up_conditions.specs.Trailing.{HasSetAt, HasStateAt, NameEarlier};
 
 use crate::choices::{parents_at_end, with_next_kid_in};
 use crate::entry::pair_of;
@@ -17,7 +19,7 @@ use bit_rows::Row;
 use listed_pairs::UpEntry;
 use smallvec::SmallVec;
 use std::alloc::{AllocError, Global};
-use ta_model::{Kids, Listed, Rule, Symbol};
+use ta_model::{Kids, Listed, Rule};
 
 /// The states of the entries at these places.
 fn states_at(alloc: Global, entries: &[UpEntry], places: &[u32]) -> Result<Kids, AllocError>
@@ -83,23 +85,27 @@ fn has_rule(
     Ok(rules.has(&rule))
 }
 
-/// Whether the entry's pair is the step by its symbol from the pairs of the entries that it names.
+/// Whether the pair of the entry at this place is the step by its symbol from the pairs of the entries
+/// that it names.
 pub(crate) fn is_step(
     alloc: Global,
-    symbols: &[Symbol],
+    a: &Listed,
     rules: &SortedRules,
     b: &Listed,
     steps: &StepIndex,
     entries: &[UpEntry],
-    entry: &UpEntry,
+    at: usize,
 ) -> Result<bool, AllocError>
+    requires rules { (rule : RuleSpec) → Contains rules.now rule ↔ Contains a.now.rules rule }
     requires steps { AreListsOf b.now steps.now }
     requires sets { All (λ e. length e.pair.set ≡ length b.now.states) entries.now }
-    requires set { length entry.now.pair.set ≡ length b.now.states }
-    requires named { All (λ k. k < length entries.now) entry.now.kids }
-    requires label { entry.now.symbol < length symbols.now }
-    ensures { IfOk result (λ yes. IsTrue yes ↔ IsStepBy symbols.now rules.now b.now entries.now entry.now) }
+    requires labels { All (λ e. e.symbol < length a.now.symbols) entries.now }
+    requires named { NameEarlier entries.now }
+    requires within { at < length entries.now }
+    ensures { IfOk result (λ yes. (entry : UpEntrySpec) → IsAt entries.now at entry → IsTrue yes ↔ IsUpStep a.now b.now entries.now at entry) }
 {
+    let symbols = a.symbols();
+    let entry = &entries[at];
     let pair = pair_of(entry);
     let named = entry.kids.as_slice();
     // The number of entries tells the proof that their places fit.

@@ -1,15 +1,15 @@
 //! The rules of B by symbol and by first child, to look its steps up.
 
 ghost use Rattle.std.specs.Prelude.{◌≡◌, ◌<◌, ◌≤◌, ◌+◌, ◌↔◌, ◌⊎◌, ◌^◌, [], ℕ, All, Contains, IfOk, length};
-ghost use Rattle.tree_definitions.specs.Automaton.{IsAutomaton};
 ghost use Rattle.tree_definitions.specs.Relation.{Has};
+ghost use Rattle.ta_model.specs.Listing.{IsListed};
 ghost use Rattle.trim_ops.specs.Marking as marking;
 ghost use Rattle.up_conditions.specs.Listed.{AreFiled};
 ghost use Rattle.up_conditions.specs.Stepping.{AreListsOf, AreUnder, IsPlaceOf, IsUnder, IsUnderFrom, first_kid};
 
 use crate::stepping::rules_by_symbol;
 use bit_rows::Row;
-use ranked_alphabet::Alphabet;
+use ranked_alphabet::{Alphabet, AlphabetError};
 use std::alloc::{AllocError, Global};
 use std::marker::Model;
 use ta_model::{Listed, Rule, Symbol};
@@ -82,8 +82,10 @@ impl StepIndex {
     pub(crate) fn of(alloc: Global, b: &Listed) -> Result<StepIndex, AllocError>
         ensures { IfOk result (λ s. AreListsOf b.now s) }
     {
-        let Ok(alphabet) = Alphabet::of(alloc, b.symbols()) else {
-            return Err(AllocError);
+        let alphabet = match Alphabet::of(alloc, b.symbols()) {
+            Ok(alphabet) => alphabet,
+            Err(AlphabetError::Memory) => return Err(AllocError),
+            Err(AlphabetError::Full) => unreachable!(),
         };
         let by_symbol = rules_by_symbol(alloc, b.rules(), b.symbols().len() + 1)?;
         let by_first = rules_by_first(alloc, b.rules(), b.states().len())?;
@@ -98,7 +100,7 @@ impl StepIndex {
     pub(crate) fn place_of(&self, b: &Listed, symbol: &Symbol) -> u32
         requires { AreListsOf b.now self.now }
         ensures place { IsPlaceOf b.now.symbols symbol.now result }
-        ensures automaton { IsAutomaton b.now }
+        ensures listed { IsListed b.now }
     {
         let count = b.symbols().len();
         match self.alphabet.find(symbol) {

@@ -5,10 +5,10 @@ ghost use Rattle.tree_definitions.specs.Automaton.{Rule as RuleSpec};
 ghost use Rattle.tree_definitions.specs.Cover.{CoversUp, Rejects};
 ghost use Rattle.tree_definitions.specs.Relation.{Has, Holds, IsAt};
 ghost use Rattle.tree_definitions.specs.UpTrail.{IsUpStep, UpEntry as UpEntrySpec};
-ghost use Rattle.listed_pairs.specs.Places.{IsFirst, IsNth};
+ghost use Rattle.listed_pairs.specs.Places.{IsFirst, IsNth, IsNthAt};
 ghost use Rattle.up_conditions.specs.Listed.{RejectsBy};
 ghost use Rattle.up_conditions.specs.Stepping.{AreListsOf};
-ghost use Rattle.up_conditions.specs.Trailing.{AllAtBefore, AreEntriesWithin, FitEntries, IsCoveredEntry, IsNthAt, IsStepBy, NameEarlier, RejectsEntry};
+ghost use Rattle.up_conditions.specs.Trailing.{AllAtBefore, AreEntriesWithin, FitEntries, IsCoveredEntry, NameEarlier, RejectsEntry};
 
 use crate::entry::pair_of;
 use crate::entry_steps::is_step;
@@ -18,28 +18,28 @@ use crate::step_index::StepIndex;
 use bit_rows::Row;
 use listed_pairs::UpEntry;
 use std::alloc::{AllocError, Global};
-use ta_model::{Listed, Symbol};
+use ta_model::Listed;
 
 /// The first entry that is no step from earlier ones.
 fn first_by_rules(
     alloc: Global,
-    symbols: &[Symbol],
+    a: &Listed,
     rules: &SortedRules,
     b: &Listed,
     steps: &StepIndex,
     entries: &[UpEntry],
 ) -> Result<Option<u32>, AllocError>
+    requires rules { (rule : RuleSpec) → Contains rules.now rule ↔ Contains a.now.rules rule }
     requires steps { AreListsOf b.now steps.now }
     requires sets { All (λ e. length e.pair.set ≡ length b.now.states) entries.now }
-    requires labels { All (λ e. e.symbol < length symbols.now) entries.now }
-    requires named { All (λ e. All (λ k. k < length entries.now) e.kids) entries.now }
+    requires labels { All (λ e. e.symbol < length a.now.symbols) entries.now }
+    requires named { NameEarlier entries.now }
     requires few { length entries.now < 4294967295 }
-    ensures none { IfOk result (λ first. IfNone first (All (IsStepBy symbols.now rules.now b.now entries.now) entries.now)) }
-    ensures some { IfOk result (λ first. IfSome first (IsFirst (IsNth entries.now (λ e. IsStepBy symbols.now rules.now b.now entries.now e → ⊥)))) }
+    ensures none { IfOk result (λ first. IfNone first ((i : ℕ) (entry : UpEntrySpec) → IsAt entries.now i entry → IsUpStep a.now b.now entries.now i entry)) }
+    ensures some { IfOk result (λ first. IfSome first (IsFirst (IsNthAt entries.now (λ i entry. IsUpStep a.now b.now entries.now i entry → ⊥)))) }
 {
     for i in 0..entries.len() {
-        let entry = &entries[i];
-        match is_step(alloc, symbols, rules, b, steps, entries, entry) {
+        match is_step(alloc, a, rules, b, steps, entries, i) {
             Ok(true) => {}
             Ok(false) => return Ok(Some(i as u32 + 1)),
             Err(_) => return Err(AllocError),
@@ -65,7 +65,7 @@ pub fn first_wrong_step(
 {
     let rules = SortedRules::new(alloc, a.rules())?;
     let steps = StepIndex::of(alloc, b)?;
-    first_by_rules(alloc, a.symbols(), &rules, b, &steps, entries)
+    first_by_rules(alloc, a, &rules, b, &steps, entries)
 }
 
 /// The first entry whose pair rejects.

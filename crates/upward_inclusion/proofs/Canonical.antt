@@ -1,12 +1,11 @@
 -- A right answer for the canonical forms of two automata is one for the automata.
-use Rattle.std.proofs.Common.{◌≡◌, ◌<◌, ℕ, ◌++◌, ◌∷◌, [], List, length, map}
-use Rattle.std.specs.Prelude.{All}
+use Rattle.std.proofs.Common.{ℕ, ◌++◌, ◌∷◌, [], List, map}
 use Rattle.std.proofs.lemmas.List.Elements.{All-weaker}
 use Rattle.tree_definitions.specs.Tree.{Symbol}
-use Rattle.tree_definitions.specs.Automaton.{Automaton, IsLabel, HasRule, IsFinal}
+use Rattle.tree_definitions.specs.Automaton.{Automaton}
 use Rattle.tree_definitions.specs.Canonical.{canon}
-use Rattle.tree_definitions.specs.Cover.{Pair, FitsPair, Post, Rejects, CoversUp}
-use Rattle.tree_definitions.specs.Relation.{Relation, Matrix, Row, Has, Holds, IsAt}
+use Rattle.tree_definitions.specs.Cover.{Pair, FitsPair, Post, Rejects}
+use Rattle.tree_definitions.specs.Relation.{Relation, Matrix, Row, Holds}
 use Rattle.tree_definitions.specs.Simulation.{IsUp}
 use Rattle.tree_definitions.specs.UpCert.{UpCert, IsCoveredUp}
 use Rattle.tree_definitions.specs.UpTrail.{UpEntry, UpTrail as IsUpTrail, IsUpStep}
@@ -14,8 +13,8 @@ use Rattle.tree_definitions.specs.Witness.{NoCert}
 use Rattle.tree_definitions.proofs.InOrder.{canon_finals, canon_language, rule_in, rule_out}
 use Rattle.witness_trees.specs.Nodes.{NodeList}
 use Rattle.certificate_kinds.specs.Answers.{IsUpAnswer}
-use Rattle.certificate_kinds.specs.Certificates.{FitsRelation, FitPairs, FitsUp, FitsTree, FitsUpTrail}
-use Rattle.certificate_kinds.specs.Fitting.{AreUpEntries, FitsUpEntry}
+use Rattle.certificate_kinds.specs.Certificates.{FitPairs}
+use Rattle.certificate_kinds.specs.Fitting.{AreUpEntries}
 use Rattle.certificate_kinds.specs.declared.certificate.Certificate.{Certificate}
 use Rattle.certificate_kinds.specs.declared.certificate.Certificate.TheVariants.{Up, Down, Tree, UpTrail, DownTrail}
 
@@ -24,10 +23,6 @@ up_out A R u = record {
   finals = λ q r h f. (canon_finals A r).0 (u.finals q r h ((canon_finals A q).1 f));
   rules = λ q r h a front back p rule. let k = u.rules q r h a front back p (rule_in A a (front ++ q ∷ back) p rule) in (k.0, rule_out A a (front ++ r ∷ back) k.0 k.1, k.2);
 }
-
-label_out : (A : Automaton) (k : ℕ) (a : Symbol) → IsLabel (canon A) k a → IsLabel A k a
-unfolding IsLabel
-label_out A k a h = h
 
 module _ (A B : Automaton) where
   post_out : (a : Symbol) (sets : List Row) (s : ℕ) → Post (canon B) a sets s → Post B a sets s
@@ -72,7 +67,7 @@ module _ (A B : Automaton) where
     step_out : (entries : List UpEntry) (i : ℕ) (entry : UpEntry) → IsUpStep (canon A) (canon B) entries i entry → IsUpStep A B entries i entry
     step_out entries i entry s = record {
       symbol = s.symbol;
-      stands = label_out A entry.symbol s.symbol s.stands;
+      stands = s.stands;
       pairs = s.pairs;
       named = s.named;
       rule = rule_out A s.symbol (map (λ pair. pair.state) s.pairs) entry.pair.state s.rule;

@@ -1,6 +1,6 @@
 -- The identity is an upward simulation, reflexive and transitive.
-use Rattle.std.proofs.Common.{◌≡◌, ◌<◌, ℕ, ◌++◌, ◌∷◌, List, length, refl, sym, ◌∙◌, subst}
-use Rattle.tree_definitions.specs.Automaton.{Automaton, HasRule, IsFinal, IsAutomaton, IsState}
+use Rattle.std.proofs.Common.{ℕ, ◌++◌, ◌∷◌, length, refl, subst}
+use Rattle.tree_definitions.specs.Automaton.{Automaton, HasRule, IsFinal, IsAutomaton}
 use Rattle.tree_definitions.specs.Canonical.{canon}
 use Rattle.tree_definitions.specs.Relation.{Matrix, Holds, IsSquare}
 use Rattle.tree_definitions.specs.Simulation.{IsUp}

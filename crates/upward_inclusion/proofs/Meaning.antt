@@ -1,5 +1,5 @@
 -- What a right answer means.
-use Rattle.std.proofs.Common.{◌≡◌, ◌<◌, ◌*◌, ◌^◌, ℕ, Bool, true, false, List, length, refl}
+use Rattle.std.proofs.Common.{◌<◌, ◌*◌, ◌^◌, ℕ, Bool, true, false, List, length, refl}
 use Rattle.tree_definitions.specs.Automaton.{Automaton, IsAutomaton, IsState}
 use Rattle.tree_definitions.specs.Cover.{Pair}
 use Rattle.tree_definitions.specs.Language.{Included}

@@ -1,6 +1,6 @@
 -- What the end of a search means.
 use Rattle.std.proofs.Common.{◌≡◌, ◌⊎◌, inl, inr, ℕ, ◌+◌, ◌*◌, ◌^◌, ◌<◌, ◌≤◌, List, [], ◌∷◌, length, map, refl, sym, ap, ◌∙◌, subst, arith}
-use Rattle.std.specs.Prelude.{◌≢◌, Contains}
+use Rattle.std.specs.Prelude.{◌≢◌, AllPairs, Contains}
 use Rattle.std.specs.List.{AllZip}
 use Rattle.tree_definitions.specs.Tree.{Symbol}
 use Rattle.tree_definitions.specs.Automaton.{Automaton, HasRule}
@@ -9,12 +9,13 @@ use Rattle.tree_definitions.specs.Simulation.{IsUp}
 use Rattle.tree_definitions.specs.Cover.{Pair, Post, Rejects, CoversUp}
 use Rattle.tree_definitions.specs.UpCert.{UpCert, IsCoveredUp, AreListed}
 use Rattle.tree_definitions.specs.UpTrail.{UpEntry, UpTrail}
-use Rattle.tree_definitions.proofs.Members.{at_unique}
+use Rattle.tree_definitions.proofs.Members.{at_unique, contains_at}
+use Rattle.tree_definitions.proofs.Determined.{one_place}
 use Rattle.tree_definitions.proofs.UpTrails.{up_trail_bound}
 use Rattle.upward_search.specs.Search.{IsOrder, IsOf, IsKeptOver, IsSearch, AllAccept, IsClosed, ListsKept}
 
 module _ (A B : Automaton) (RA RB : Relation) (entries : List UpEntry) (kept : Places) (search : IsSearch A B RA RB entries kept) (accept : AllAccept A B entries) (up_left : IsUp A RA) (up_right : IsUp B RB) where
-  module _ (closed : IsClosed A B RA RB entries kept kept) (X : List Pair) (lists : ListsKept entries kept X) where
+  module _ (closed : IsClosed A B RA RB entries kept kept) (X : List Pair) (lists : ListsKept entries kept X) (distinct : AllPairs ◌≢◌ X) where
     covered_in : (p : ℕ) (P : Places) → IsKeptOver RA RB entries kept p P → IsCoveredUp RA RB X p P
     covered_in p P h = (h.1.pair, (lists h.1.pair).1 (h.0, (h.2, (h.1, h.3, refl))), h.4)
 
@@ -40,17 +41,21 @@ module _ (A B : Automaton) (RA RB : Relation) (entries : List UpEntry) (kept : P
         let h = closed n.0 n.1 n.2 a p (subst (λ ks. HasRule A a ks p) (sym n.3) rule) in
         covered_in p (Post B a sets) (subst (λ ss. IsKeptOver RA RB entries kept p (Post B a ss)) n.4 h)
 
-    apart : (x y : Pair) → Contains X x → Contains X y → x ≢ y → ¬ CoversUp RA RB x y.state (Has y.set)
-    apart x y mx my ne c = go (lists x).0 (lists y).0
+    apart : (m n : ℕ) (x y : Pair) → m ≢ n → IsAt X m x → IsAt X n y → ¬ CoversUp RA RB x y.state (Has y.set)
+    apart m n x y other ax ay c = go (lists x).0 (lists y).0
       where
         go : (Contains X x → (k : ℕ) × IsOf entries kept k x) → (Contains X y → (k : ℕ) × IsOf entries kept k y) → ⊥
         go f g =
-            let i = f mx in
-            let j = g my in
+            let i = f (contains_at X m x ax) in
+            let j = g (contains_at X n y ay) in
             let d : CoversUp RA RB i.1.1.0.pair y.state (Has y.set) = subst (λ w. CoversUp RA RB w y.state (Has y.set)) (sym i.1.1.2) c in
             let e : CoversUp RA RB i.1.1.0.pair j.1.1.0.pair.state (Has j.1.1.0.pair.set) = subst (λ (w : Pair). CoversUp RA RB i.1.1.0.pair w.state (Has w.set)) (sym j.1.1.2) d in
             compare i.0 j.0 i.1.1.0 j.1.1.0 i.1.0 j.1.0 i.1.1.1 j.1.1.1 (λ same. ne (sym i.1.1.2 ∙ ap (λ w. w.pair) same ∙ j.1.1.2)) e
           where
+            -- two places have two pairs
+            ne : x ≡ y → ⊥
+            ne e = other (one_place X distinct m n y (subst (IsAt X m) e ax) ay)
+
             compare : (i j : ℕ) (u v : UpEntry) → kept i → kept j → IsAt entries i u → IsAt entries j v → (u ≡ v → ⊥) → CoversUp RA RB u.pair v.pair.state (Has v.pair.set) → ⊥
             compare i j u v ki kj au av other c =
                 let order : (i < j) ⊎ ((j < i) ⊎ (i ≡ j)) = three i j in

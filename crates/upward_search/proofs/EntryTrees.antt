@@ -3,7 +3,7 @@ use Rattle.std.proofs.Common.{◌≡◌, ℕ, zero, suc, ◌<◌, ◌+◌, List,
 use Rattle.std.specs.Prelude.{◌↔◌}
 use Rattle.std.specs.List.{AllZip}
 use Rattle.tree_definitions.specs.Tree.{Symbol, Tree, Node, Trees, NoTrees, More}
-use Rattle.tree_definitions.specs.Automaton.{Automaton, HasRule, IsLabel}
+use Rattle.tree_definitions.specs.Automaton.{Automaton, HasRule, IsNumber}
 use Rattle.tree_definitions.specs.Language.{Reaches, ReachEachBy}
 use Rattle.tree_definitions.specs.Relation.{Row, Has, IsAt}
 use Rattle.tree_definitions.specs.Cover.{Pair, Rejects}
@@ -12,7 +12,7 @@ use Rattle.tree_definitions.specs.UpTrail.{UpEntry, HasPairBefore, IsUpStep}
 
 module _ (A B : Automaton) (entries : List UpEntry) (steps : (i : ℕ) (entry : UpEntry) → IsAt entries i entry → IsUpStep A B entries i entry)
     (symbols : List Symbol) (nodes : List NodeRow)
-    (labels : (k : ℕ) (a : Symbol) → IsLabel A k a → IsAt symbols k a)
+    (labels : (k : ℕ) (a : Symbol) → IsNumber A.bits A.symbols k a → IsAt symbols k a)
     (same : (i : ℕ) (entry : UpEntry) → IsAt entries i entry → IsAt nodes i (record { symbol = entry.symbol; kids = entry.kids })) where
   -- the node's tree reaches the state in A, and in B exactly the set
   pub record Stands (k : ℕ) (pair : Pair) : Type 0 where

@@ -1,8 +1,8 @@
 //! What a search keeps true, and what its ends mean.
 
-ghost use Rattle.std.specs.Prelude.{◌≡◌, ℕ, ◌+◌, ◌*◌, ◌^◌, ◌≤◌, List, length};
+ghost use Rattle.std.specs.Prelude.{◌≡◌, ◌≢◌, AllPairs, ℕ, ◌+◌, ◌*◌, ◌^◌, ◌≤◌, List, length};
 ghost use Rattle.tree_definitions.specs.Tree.{Symbol};
-ghost use Rattle.tree_definitions.specs.Automaton.{Automaton, IsLabel};
+ghost use Rattle.tree_definitions.specs.Automaton.{Automaton, IsNumber};
 ghost use Rattle.tree_definitions.specs.Relation.{Matrix, Holds, Row, Has, IsAt};
 ghost use Rattle.tree_definitions.specs.Simulation.{IsUp};
 ghost use Rattle.tree_definitions.specs.Cover.{Pair, FitsPair, Rejects};
@@ -27,7 +27,7 @@ pub fn closed_search_is_certificate()
     ensures { (A B : Automaton) (left right : Matrix) (entries : List UpEntry) (flags : Row) (pairs : List Pair)
         → IsUp A (Holds left) → IsUp B (Holds right) → IsSearch A B (Holds left) (Holds right) entries (Has flags) → AllAccept A B entries
         → IsClosed A B (Holds left) (Holds right) entries (Has flags) (Has flags) → ListsKept entries (Has flags) pairs
-        → UpCert A B (Holds left) (Holds right) pairs }
+        → AllPairs ◌≢◌ pairs → UpCert A B (Holds left) (Holds right) pairs }
 {}
 
 /// Where the last entry rejects, the entries are the nodes of a tree that the left automaton
@@ -37,7 +37,7 @@ pub fn rejecting_entry_refutes()
         (symbols : List Symbol) (nodes : List NodeRow)
         → IsSearch A B (Holds left) (Holds right) entries (Has flags) → IsAt entries last entry → Rejects A B entry.pair
         → length nodes ≡ last + 1
-        → ((k : ℕ) (a : Symbol) → IsLabel A k a → IsAt symbols k a)
+        → ((k : ℕ) (a : Symbol) → IsNumber A.bits A.symbols k a → IsAt symbols k a)
         → ((i : ℕ) (x : UpEntry) → IsAt entries i x → IsAt nodes i (record { symbol = x.symbol; kids = x.kids }))
         → NoCert A B symbols nodes }
 {}

@@ -13,14 +13,14 @@ use Rattle.vata_core.specs.Request.{Request, files_of}
 use Rattle.vata_core.specs.declared.measure.Measure.{Measure}
 use Rattle.vata_core.specs.Files.{AreSpelled, ComesTo, IsBadAt, IsFileOf, IsOverAt, IsRefused, IsSpelled, IsTooLong, Told}
 use Rattle.vata_core.specs.Lines.{memory_line, read_line, syntax_line}
-use Rattle.vata_core.specs.Outcome.{FailsToRead, IsLimited, TooLong, Over, Past}
+use Rattle.vata_core.specs.Outcome.{FailsToRead, IsAnswered, IsLimited, TooLong, Over, Past}
 use Rattle.vata_core.specs.Refusals.{AreUnread, IsCause, IsFileHalt, IsHaltAt, IsHalted, IsOperationHalt, halt_line, halt_status}
 use Rattle.vata_core.specs.declared.halting.Halt.{Halt}
 use Rattle.vata_core.specs.declared.halting.Halt.TheVariants as halt
 use Rattle.vata_core.specs.declared.loading.Refusal.{Refusal}
 use Rattle.vata_core.specs.declared.loading.Refusal.TheVariants as refusal
 use Rattle.vata_core.specs.declared.status.Status.TheVariants as status
-use Rattle.vata_core.proofs.Pieces.{rose_after, rose_before}
+use Rattle.vata_core.proofs.Pieces.{rose_before}
 use Rattle.vata_core.proofs.Walk.{IsBad, IsOver, bad_not_over, bad_not_spelled, long_not_spelled, one_automaton, over_not_spelled, told_so}
 
 -- what holds of all that was read holds of the file of that name
@@ -39,6 +39,7 @@ first_unread files name names before now (halt.File at r) h = subst (λ p. IsHal
     stops (refusal.Limit what at) c = record { name = name; first = record { stands = refl; before = ([], tt) }; reason = c }
     stops refusal.Memory c = tt
 first_unread files name names before now (halt.Past what) h = absurd h
+first_unread files name names before now halt.Memory h = absurd h
 
 -- why the second file gives no automaton
 pub second_unread : (files : Option (List File)) (first name : List ℕ) (names : List (List ℕ)) (A : Automaton) (before then now : ℕ) (h : Halt) → IsSpelled files first A → before ≤ then
@@ -56,30 +57,20 @@ second_unread files first name names A before then now (halt.File at r) s le h =
     stops (refusal.Limit what at) c = record { name = name; first = record { stands = refl; before = (A ∷ [], (s, tt)) }; reason = c }
     stops refusal.Memory c = tt
 second_unread files first name names A before then now (halt.Past what) s le h = absurd h
-
--- a later fault of reading is one of the whole run
-pub unread_before : (files : Option (List File)) (names : List (List ℕ)) (before then now : ℕ) (h : Halt) → then ≤ now → AreUnread files names before then h → AreUnread files names before now h
-unread_before files names before then now (halt.File place refusal.ReadFault) le h = record {
-  name = h.name;
-  first = h.first;
-  cause = elim h.cause [ inl rose ↦ inl (rose_after before then now rose le) | inr missing ↦ inr missing ];
-}
-unread_before files names before then now (halt.File place refusal.TooLong) le h = h
-unread_before files names before then now (halt.File place (refusal.Syntax at)) le h = h
-unread_before files names before then now (halt.File place (refusal.Limit what at)) le h = h
-unread_before files names before then now (halt.File place refusal.Memory) le h = h
-unread_before files names before then now (halt.Past what) le h = h
+second_unread files first name names A before then now halt.Memory s le h = absurd h
 
 -- files of a request that give no automata leave it without an answer
 pub unread_halted : (files : Option (List File)) (request : Request) (before now : ℕ) (h : Halt) → AreUnread files (files_of request) before now h → IsHalted files request before now h
 unread_halted files request before now (halt.File place r) h = h
 unread_halted files request before now (halt.Past what) h = absurd h
+unread_halted files request before now halt.Memory h = absurd h
 
 -- what has no result for the automata of a request's files leaves it without an answer
 pub operation_halted : (files : Option (List File)) (request : Request) (As : List Automaton) (before now : ℕ) (h : Halt) → AreSpelled files (files_of request) As
     → IsOperationHalt (Exceeds request As) h → IsHalted files request before now h
-operation_halted files request As before now (halt.File place r) s h = subst (IsHaltAt files (files_of request) before now place) (sym h) tt
+operation_halted files request As before now (halt.File place r) s h = absurd h
 operation_halted files request As before now (halt.Past what) s h = (As, s, h)
+operation_halted files request As before now halt.Memory s h = tt
 
 -- what ends with status Limit is beyond a limit, and its line is told
 pub limited : (files : Option (List File)) (request : Request) (before now : ℕ) (h : Halt) → halt_status h ≡ status.Limit → IsHalted files request before now h → IsLimited files request (halt_line h)
@@ -89,6 +80,7 @@ limited files request before now (halt.File place (refusal.Syntax at)) e h = cc 
 limited files request before now (halt.File place (refusal.Limit what at)) e h = Over place (limit_of what) at h
 limited files request before now (halt.File place refusal.Memory) e h = cc e
 limited files request before now (halt.Past what) e h = Past h.0 what h.1 h.2
+limited files request before now halt.Memory e h = cc e
 
 -- what ends with status Syntax is a file with a bad place, which is told
 pub bad_file : (files : Option (List File)) (request : Request) (before now : ℕ) (h : Halt) → halt_status h ≡ status.Syntax → IsHalted files request before now h
@@ -99,6 +91,7 @@ bad_file files request before now (halt.File place (refusal.Syntax at)) e h = (p
 bad_file files request before now (halt.File place (refusal.Limit what at)) e h = cc e
 bad_file files request before now (halt.File place refusal.Memory) e h = cc e
 bad_file files request before now (halt.Past what) e h = cc e
+bad_file files request before now halt.Memory e h = cc e
 
 -- what ends with status ReadFault is a file that can't be read, which is told
 pub unread_file : (files : Option (List File)) (request : Request) (before now : ℕ) (h : Halt) → halt_status h ≡ status.ReadFault → IsHalted files request before now h
@@ -109,6 +102,7 @@ unread_file files request before now (halt.File place (refusal.Syntax at)) e h =
 unread_file files request before now (halt.File place (refusal.Limit what at)) e h = cc e
 unread_file files request before now (halt.File place refusal.Memory) e h = cc e
 unread_file files request before now (halt.Past what) e h = cc e
+unread_file files request before now halt.Memory e h = cc e
 
 -- what ends with status Memory tells that
 pub memory_told : (h : Halt) → halt_status h ≡ status.Memory → halt_line h ≡ memory_line
@@ -118,6 +112,17 @@ memory_told (halt.File place (refusal.Syntax at)) e = cc e
 memory_told (halt.File place (refusal.Limit what at)) e = cc e
 memory_told (halt.File place refusal.Memory) e = refl
 memory_told (halt.Past what) e = cc e
+memory_told halt.Memory e = refl
+
+-- a run that has no answer wrote none
+pub halt_unanswered : (h : Halt) → IsAnswered (halt_status h) → ⊥
+halt_unanswered (halt.File place refusal.ReadFault) a = a
+halt_unanswered (halt.File place refusal.TooLong) a = a
+halt_unanswered (halt.File place (refusal.Syntax at)) a = a
+halt_unanswered (halt.File place (refusal.Limit what at)) a = a
+halt_unanswered (halt.File place refusal.Memory) a = a
+halt_unanswered (halt.Past what) a = a
+halt_unanswered halt.Memory a = a
 
 module _ (fs : List File) where
   spelled_before : (names : List (List ℕ)) (As : List Automaton) (p q : ℕ) (name : List ℕ) → IsAt names p name → p < q → AreSpelled (Some fs) (take q names) As → (A : Automaton) × IsSpelled (Some fs) name A
@@ -255,6 +260,7 @@ module _ (fs : List File) where
     syntax_due place at before now (halt.File there (refusal.Limit what p)) f calm h = absurd (past_or_bad (past_stop there (limit_of what) p h) (bad_stop place at f))
     syntax_due place at before now (halt.File there refusal.Memory) f calm h = inr refl
     syntax_due place at before now (halt.Past what) f calm h = absurd (bad_or_spelled h.0 place at h.1 f)
+    syntax_due place at before now halt.Memory f calm h = inr refl
 
     limited_or_lost : (line : List ℕ) → IsLimited (Some fs) request line → Stop Lost → ⊥
     limited_or_lost line (TooLong place f) l = long_or_lost (long_stop place f) l
@@ -275,6 +281,7 @@ module _ (fs : List File) where
     limit_due line before now (halt.File there (refusal.Limit what p)) f calm h = inl refl
     limit_due line before now (halt.File there refusal.Memory) f calm h = inr refl
     limit_due line before now (halt.Past what) f calm h = inl refl
+    limit_due line before now halt.Memory f calm h = inr refl
 
     -- where each file spells an automaton and the command's limits are kept, only memory can be wanting
     pub nothing_wrong : (before now : ℕ) (h : Halt) (As : List Automaton) → AreSpelled (Some fs) names As → IsWithin request As → ¬ Rose before now → IsHalted (Some fs) request before now h → halt_status h ≡ status.Memory
@@ -284,3 +291,4 @@ module _ (fs : List File) where
     nothing_wrong before now (halt.File there (refusal.Limit what p)) As s within calm h = absurd (ends_none Beyond past_ends As s (past_stop there (limit_of what) p h))
     nothing_wrong before now (halt.File there refusal.Memory) As s within calm h = refl
     nothing_wrong before now (halt.Past what) As s within calm h = absurd (past_within As h.0 what s within h.1 h.2)
+    nothing_wrong before now halt.Memory As s within calm h = refl

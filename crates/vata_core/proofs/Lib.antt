@@ -1,4 +1,5 @@
 pub mod Taken
+pub mod Left
 pub mod Answered
 pub mod Pieces
 pub mod Walk
@@ -8,3 +9,7 @@ pub mod Orders
 pub mod RelationLines
 pub mod Measures
 pub mod Meaning
+pub mod Languages
+pub mod OneAnswer
+pub mod Evidence
+pub mod Decided

@@ -1,12 +1,11 @@
 -- Which measures of a command are over their numbers.
-use Rattle.std.proofs.Common.{◌≡◌, ◌⊎◌, ◌<◌, ◌≤◌, length, inl, inr, ap, arith, subst}
+use Rattle.std.proofs.Common.{◌≡◌, ◌<◌, ap, arith, subst}
 use Rattle.explicit_ta.specs.Pair.{Two}
 use Rattle.tree_definitions.specs.Automaton.{Automaton}
 use Rattle.tree_definitions.specs.Canonical.{canon}
-use Rattle.tree_definitions.specs.Joint.{joint_symbols}
 use Rattle.bool_ops.specs.Results.{HasMoreRules, HasMoreStates}
 use Rattle.quotient.specs.Merged.{HasMoreUseful}
-use Rattle.vata_core.specs.Limits.{ExceedsInclusion, ExceedsProduct, ExceedsQuotient, ExceedsUnion, HasManySymbols, IsFirstOver, turn}
+use Rattle.vata_core.specs.Limits.{ExceedsProduct, ExceedsQuotient, ExceedsUnion, IsFirstOver, turn}
 use Rattle.vata_core.specs.declared.measure.Measure.{Measure}
 use Rattle.vata_core.specs.declared.measure.Measure.TheVariants.{Symbols, Pairs, Rules, Relation}
 use Rattle.bool_ops.proofs.CanonicalProduct.{more_rules_in, more_rules_out, more_states_in, more_states_out}
@@ -60,25 +59,6 @@ module _ (A T : Automaton) (is : T ≡ A) where
     where
       earlier_none : (earlier : Measure) → turn earlier < 3 → ExceedsQuotient earlier A → ⊥
       earlier_none Symbols lt e = e
-      earlier_none Pairs lt e = e
-      earlier_none Rules lt e = e
-      earlier_none Relation lt e = omega (arith, lt)
-
-module _ (A B : Automaton) where
-  pub inclusion_within : length (joint_symbols A.symbols B.symbols) ≤ 65535 → length A.states ≤ 20000 → length B.states ≤ 20000 → (what : Measure) → ExceedsInclusion what A B → ⊥
-  inclusion_within symbols left right Symbols e = omega (arith, symbols, e)
-  inclusion_within symbols left right Pairs e = e
-  inclusion_within symbols left right Rules e = e
-  inclusion_within symbols left right Relation e = elim e [ inl l ↦ omega (arith, l, left) | inr r ↦ omega (arith, r, right) ]
-
-  pub past_symbols : HasManySymbols A B → IsFirstOver (λ what. ExceedsInclusion what A B) Symbols
-  past_symbols h = record { over = h; first = λ earlier lt e. omega (arith, lt) }
-
-  pub past_relation : length (joint_symbols A.symbols B.symbols) ≤ 65535 → (20000 < length A.states) ⊎ (20000 < length B.states) → IsFirstOver (λ what. ExceedsInclusion what A B) Relation
-  past_relation symbols h = record { over = h; first = earlier_none }
-    where
-      earlier_none : (earlier : Measure) → turn earlier < 3 → ExceedsInclusion earlier A B → ⊥
-      earlier_none Symbols lt e = omega (arith, symbols, e)
       earlier_none Pairs lt e = e
       earlier_none Rules lt e = e
       earlier_none Relation lt e = omega (arith, lt)

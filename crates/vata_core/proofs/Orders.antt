@@ -34,11 +34,13 @@ reaches_in A t q h = reaches_over (HasRule A) (HasRule (canon A)) (λ x y. x ≡
 -- the union is that of the canonical forms
 pub union_alike : (A B U : Automaton) → IsUnion (canon A) (canon B) U → IsUnion A B U
 union_alike A B U h = record {
+  bits = h.bits;
   name = h.name;
   symbols = h.symbols;
   states = h.states;
   finals = λ q. (λ f. out q ((h.finals q).0 f), λ f. (h.finals q).1 (into q f));
   rules = λ a kids q. (λ r. rules_out a kids q ((h.rules a kids q).0 r), λ r. (h.rules a kids q).1 (rules_in a kids q r));
+  fitting = h.fitting;
 }
   where
     out : (q : ℕ) → IsFinal (canon A) q ⊎ ((s : ℕ) × (q ≡ right A s) × IsFinal (canon B) s) → IsFinal A q ⊎ ((s : ℕ) × (q ≡ right A s) × IsFinal B s)
@@ -78,6 +80,7 @@ pub trim_alike : (A T : Automaton) → IsTrim (canon A) T → IsTrim A T
 trim_alike A T h = (
   h.0,
   record {
+    bits = h.1.bits;
     name = h.1.name;
     symbols = h.1.symbols;
     rising = h.1.rising;
@@ -94,6 +97,7 @@ trim_alike A T h = (
       λ r. let x = (h.1.rules a kids i).0 r in (x.0, x.1, x.2, x.3, rule_out A a x.0 x.1 x.4),
       λ x. (h.1.rules a kids i).1 (x.0, x.1, x.2, x.3, rule_in A a x.0 x.1 x.4),
     );
+    fitting = h.1.fitting;
   },
 )
 

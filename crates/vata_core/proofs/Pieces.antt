@@ -12,10 +12,6 @@ use Rattle.vata_core.specs.Lines.{Tells}
 pub rose_before : (a b c : ℕ) → a ≤ b → Rose b c → Rose a c
 rose_before a b c h r = omega (arith, h, r)
 
--- a count that rose at first rose in all
-pub rose_after : (a b c : ℕ) → Rose a b → b ≤ c → Rose a c
-rose_after a b c r h = omega (arith, h, r)
-
 -- the front was cut
 pub told_cut : (old new : Option (List ℕ)) (before now : ℕ) (front back : List ℕ) → AppendsPrefix old new front × Rose before now → Tells old new before now (front ++ back)
 told_cut old new before now front back h = record {

@@ -1,8 +1,8 @@
 -- Why the files of the checker are not judged, and what that excludes.
-use Rattle.std.proofs.Common.{◌≡◌, ◌⊎◌, ◌≤◌, ℕ, List, [], ◌∷◌, length, Some, None, inl, inr, refl, sym, ap, ◌∙◌, subst, arith}
+use Rattle.std.proofs.Common.{◌≡◌, ◌⊎◌, ◌≤◌, ℕ, List, [], ◌∷◌, Some, None, inl, inr, refl, sym, ap, ◌∙◌, subst, arith}
 use Rattle.std.specs.Prelude.{unwrap_or}
 use Rattle.std.specs.declared.option.Option.{Option}
-use Rattle.vata_outside.specs.Outside.{File, IsMissing, Rose}
+use Rattle.vata_outside.specs.Outside.{File, Rose}
 use Rattle.tree_definitions.specs.Automaton.{Automaton}
 use Rattle.incl_certificate.specs.Text.{Said}
 use Rattle.timbuk_definitions.specs.Place.{Limit}
@@ -10,12 +10,11 @@ use Rattle.timbuk_text.specs.Taking.{limit_of}
 use Rattle.witness_trees.specs.Judged.{Verdict, Is, BadAt, UnknownAt}
 use Rattle.certificate_kinds.specs.declared.certificate.Certificate.{Certificate}
 use Rattle.vata_core.specs.CheckRequest.{CheckRequest, all_of, automata_of}
-use Rattle.vata_core.specs.Files.{AreSpelled, ComesTo, IsRefused, IsBadAt, IsOverAt, IsSpelled, IsTooLong, Told}
-use Rattle.vata_core.specs.Judgement.{HasJudgement, IsCertificateOf}
-use Rattle.vata_core.specs.NoCertificate.{IsBeyond, TooLong, Over, IsFaulty, NoAutomaton, BadText, UnknownName, IsNoCertificate, IsReadAs, IsTooLongAt, most_bytes}
-use Rattle.vata_core.specs.Outcome.{FailsToRead, IsAnswered}
+use Rattle.vata_core.specs.Files.{AreSpelled, IsRefused, IsBadAt, IsOverAt, IsSpelled, Told}
+use Rattle.vata_core.specs.Judgement.{IsCertificateOf}
+use Rattle.vata_core.specs.NoCertificate.{IsBeyond, TooLong, Over, IsFaulty, NoAutomaton, BadText, UnknownName, IsNoCertificate, IsReadAs, IsTooLongAt}
+use Rattle.vata_core.specs.Outcome.{FailsToRead}
 use Rattle.vata_core.specs.Refusals.{IsFileRefused, IsReason, IsStopped, IsUnjudged, IsUnread, reason_line, reason_status}
-use Rattle.vata_core.specs.declared.judging.Judgement.{Judgement}
 use Rattle.vata_core.specs.declared.judging.Unjudged.{Unjudged}
 use Rattle.vata_core.specs.declared.judging.Unjudged.TheVariants as unjudged
 use Rattle.vata_core.specs.declared.loading.Refusal.{Refusal}
@@ -34,6 +33,7 @@ faulty files r before now (unjudged.File place (refusal.Limit what at)) e h = cc
 faulty files r before now (unjudged.File place refusal.Memory) e h = cc e
 faulty files r before now (unjudged.BadText at) e h = BadText at h
 faulty files r before now (unjudged.UnknownName at) e h = UnknownName at h
+faulty files r before now unjudged.Memory e h = cc e
 
 -- what ends with status Limit is beyond a limit, and its line is told
 pub beyond : (files : Option (List File)) (r : CheckRequest) (before now : ℕ) (reason : Unjudged) → reason_status reason ≡ status.Limit → IsUnjudged files r before now reason
@@ -45,6 +45,7 @@ beyond files r before now (unjudged.File place (refusal.Limit what at)) e h = Ov
 beyond files r before now (unjudged.File place refusal.Memory) e h = cc e
 beyond files r before now (unjudged.BadText at) e h = cc e
 beyond files r before now (unjudged.UnknownName at) e h = cc e
+beyond files r before now unjudged.Memory e h = cc e
 
 module _ (fs : List File) (r : CheckRequest) where
   long : (place : ℕ) → IsRefused (Some fs) (all_of r) (IsTooLongAt place) place → Comes fs r place (Long fs r place)
@@ -122,6 +123,7 @@ module _ (fs : List File) (r : CheckRequest) where
   syntax_due line before now (unjudged.File place refusal.Memory) f calm h = inr refl
   syntax_due line before now (unjudged.BadText at) f calm h = inl refl
   syntax_due line before now (unjudged.UnknownName at) f calm h = inl refl
+  syntax_due line before now unjudged.Memory f calm h = inr refl
 
   -- where a file is beyond a limit, that is told
   pub limit_due : (line : List ℕ) (before now : ℕ) (reason : Unjudged) → IsBeyond (Some fs) r line → ¬ Rose before now → IsUnjudged (Some fs) r before now reason
@@ -133,6 +135,7 @@ module _ (fs : List File) (r : CheckRequest) where
   limit_due line before now (unjudged.File place refusal.Memory) f calm h = inr refl
   limit_due line before now (unjudged.BadText at) f calm h = absurd (beyond_or_unread line (BadAt at) f h)
   limit_due line before now (unjudged.UnknownName at) f calm h = absurd (beyond_or_unread line (UnknownAt at) f h)
+  limit_due line before now unjudged.Memory f calm h = inr refl
 
   -- where the files are two automata and a certificate, only memory can be wanting
   pub nothing_wrong : (before now : ℕ) (reason : Unjudged) (A B : Automaton) (c : Certificate) → AreSpelled (Some fs) (automata_of r) (A ∷ B ∷ []) → Told (Some fs) r.certificate (IsCertificateOf A B c)
@@ -144,6 +147,7 @@ module _ (fs : List File) (r : CheckRequest) where
   nothing_wrong before now (unjudged.File place refusal.Memory) A B c s t calm h = refl
   nothing_wrong before now (unjudged.BadText at) A B c s t calm h = absurd (bad_or_good at A B c h s t)
   nothing_wrong before now (unjudged.UnknownName at) A B c s t calm h = absurd (unknown_or_good at A B c h s t)
+  nothing_wrong before now unjudged.Memory A B c s t calm h = refl
 
 -- what holds of the bytes read holds of those told
 pub told_as : (files : Option (List File)) (name text : List ℕ) (P : List ℕ → Type 0) → Told files name (λ bytes. text ≡ bytes) → P text → Told files name P
@@ -191,22 +195,26 @@ first_file files r before now (unjudged.File at c) h = subst (λ p. IsStopped fi
     first_stops refusal.Memory reason = tt
 first_file files r before now (unjudged.BadText at) h = absurd h
 first_file files r before now (unjudged.UnknownName at) h = absurd h
+first_file files r before now unjudged.Memory h = absurd h
 
 pub second_file : (files : Option (List File)) (r : CheckRequest) (A : Automaton) (before then now : ℕ) (reason : Unjudged) → IsSpelled files r.first A → before ≤ then
     → IsFileRefused files r.second then now 1 reason → IsUnjudged files r before now reason
 second_file files r A before then now (unjudged.File at c) s h reason = subst (λ p. IsStopped files r before now p c) (sym reason.0) (second_stops files r A before then now c s h reason.1)
 second_file files r A before then now (unjudged.BadText at) s h reason = absurd reason
 second_file files r A before then now (unjudged.UnknownName at) s h reason = absurd reason
+second_file files r A before then now unjudged.Memory s h reason = absurd reason
 
 pub third_file : (files : Option (List File)) (r : CheckRequest) (A B : Automaton) (before then now : ℕ) (reason : Unjudged) → IsSpelled files r.first A → IsSpelled files r.second B → before ≤ then
     → IsFileRefused files r.certificate then now 2 reason → IsUnjudged files r before now reason
 third_file files r A B before then now (unjudged.File at c) s t h reason = subst (λ p. IsStopped files r before now p c) (sym reason.0) (third_stops files r A B before then now c s t h reason.1)
 third_file files r A B before then now (unjudged.BadText at) s t h reason = absurd reason
 third_file files r A B before then now (unjudged.UnknownName at) s t h reason = absurd reason
+third_file files r A B before then now unjudged.Memory s t h reason = absurd reason
 
 -- why the third file's text is not judged
 pub unread_file : (files : Option (List File)) (r : CheckRequest) (A B : Automaton) (text : List ℕ) (before now : ℕ) (reason : Unjudged) → IsSpelled files r.first A → IsSpelled files r.second B
     → Told files r.certificate (λ bytes. text ≡ bytes) → IsUnread A B text reason → IsUnjudged files r before now reason
-unread_file files r A B text before now (unjudged.File place c) s t told h = subst (IsStopped files r before now place) (sym h) tt
+unread_file files r A B text before now (unjudged.File place c) s t told h = absurd h
 unread_file files r A B text before now (unjudged.BadText at) s t told h = record { first = A; second = B; spelled = (s, (t, tt)); read = told_as files r.certificate text (IsReadAs A B (BadAt at)) told h }
 unread_file files r A B text before now (unjudged.UnknownName at) s t told h = record { first = A; second = B; spelled = (s, (t, tt)); read = told_as files r.certificate text (IsReadAs A B (UnknownAt at)) told h }
+unread_file files r A B text before now unjudged.Memory s t told h = tt

@@ -17,9 +17,9 @@ use Rattle.certificate_kinds.specs.declared.certificate.Certificate.{Certificate
 use Rattle.down_entry_lines.specs.Fitting.{AreRanksNumbers}
 use Rattle.incl_certificate.proofs.ReadBack.{printed_back}
 use Rattle.vata_core.specs.CheckRequest.{CheckRequest, all_of, automata_of}
-use Rattle.vata_core.specs.Files.{AreSpelled, ComesTo, IsBadAt, IsFileOf, IsOverAt, IsSpelled, IsTooLong, Told}
+use Rattle.vata_core.specs.Files.{AreSpelled, ComesTo, IsBadAt, IsFileOf, IsOverAt, IsSpelled, IsTooLong, Told, most_bytes}
 use Rattle.vata_core.specs.Judgement.{IsCertificateOf}
-use Rattle.vata_core.specs.NoCertificate.{IsReadAs, IsTooLongAt, most_bytes}
+use Rattle.vata_core.specs.NoCertificate.{IsReadAs, IsTooLongAt}
 
 -- a text spells one automaton
 pub one_automaton : (bytes : List ℕ) (A B : Automaton) → IsFileOf A bytes → IsFileOf B bytes → A ≡ B
@@ -32,6 +32,7 @@ listed bytes A a =
     let few = spelled_small bytes A a.text a.within in
     record {
       automaton = spelled_formed bytes A a.text;
+      narrow = a.text.3.narrow;
       name = names.name;
       symbol_names = (λ k d lt. (All-from_recursion (λ s. IsName s.name × (s.rank < 2 ^ 64)) A.symbols names.symbols k d lt).0);
       state_names = All-from_recursion IsName A.states names.states;
@@ -41,7 +42,7 @@ listed bytes A a =
     }
 
 -- and its ranks are numbers of 64 bits
-ranked : (bytes : List ℕ) (A : Automaton) → IsFileOf A bytes → AreRanksNumbers A
+pub ranked : (bytes : List ℕ) (A : Automaton) → IsFileOf A bytes → AreRanksNumbers A
 ranked bytes A a =
     let names = spelled_named bytes A a.text a.within in
     λ k d lt. (All-from_recursion (λ s. IsName s.name × (s.rank < 2 ^ 64)) A.symbols names.symbols k d lt).1
@@ -71,7 +72,7 @@ told_so fs name P Q f h = (h.0, h.1, f h.0 h.2)
 
 module _ (fs : List File) (r : CheckRequest) where
   -- two facts about the bytes of one file
-  told_both : (name : List ℕ) (P Q : List ℕ → Type 0) → Told (Some fs) name P → Told (Some fs) name Q → (bytes : List ℕ) × P bytes × Q bytes
+  pub told_both : (name : List ℕ) (P Q : List ℕ → Type 0) → Told (Some fs) name P → Told (Some fs) name Q → (bytes : List ℕ) × P bytes × Q bytes
   told_both name P Q p q = (q.0, subst P (ap (λ o. unwrap_or o []) (sym p.1 ∙ q.1)) p.2, q.2)
 
   told_not_missing : (name : List ℕ) (P : List ℕ → Type 0) → IsMissing (Some fs) name → Told (Some fs) name P → ⊥

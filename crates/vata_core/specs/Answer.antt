@@ -13,10 +13,14 @@ use Rattle.simulations.specs.Relations.{IsGreatestUp}
 use Rattle.certificate_kinds.specs.declared.certificate.Certificate.{Certificate}
 use Rattle.certificate_kinds.specs.declared.certificate.Certificate.TheVariants as kind
 use Rattle.incl_certificate.specs.Text.{certificate_text}
-use Rattle.upward_inclusion.specs.Inclusion.{IsInclusionAnswer}
 use Rattle.vata_words.specs.declared.request.Dir.{Dir}
 use Rattle.vata_words.specs.declared.request.Dir.TheVariants.{Up, Down}
-use Rattle.vata_core.specs.Request.{Request, Load, Union, Isect, Sim, Red, Incl}
+use Rattle.vata_core.specs.Inclusion.{IsInclusionAnswer}
+use Rattle.vata_core.specs.Request.{Request, Unary, Binary}
+use Rattle.vata_core.specs.declared.words.UnaryCommand.{UnaryCommand}
+use Rattle.vata_core.specs.declared.words.UnaryCommand.TheVariants.{Load, Sim, Red}
+use Rattle.vata_core.specs.declared.words.BinaryCommand.{BinaryCommand}
+use Rattle.vata_core.specs.declared.words.BinaryCommand.TheVariants.{Union, Isect, Incl}
 use Rattle.vata_core.specs.RelationText.{relation_text}
 use Rattle.vata_core.specs.declared.status.Status.{Status}
 use Rattle.vata_core.specs.declared.status.Status.TheVariants as status
@@ -50,26 +54,34 @@ abbrev pub IsGreatest : Dir → Automaton → Matrix → Type 0
 IsGreatest Up A m = IsGreatestUp A m
 IsGreatest Down A m = IsGreatestDown A m
 
+-- the answer is right for a command on A
+abbrev pub IsUnaryRight : UnaryCommand → Automaton → Answer → Type 0
+IsUnaryRight (Load trim) A (Listing L) = IsForm trim A L
+IsUnaryRight (Load trim) A (Related dir states pairs) = ⊥
+IsUnaryRight (Load trim) A (Shown B C c) = ⊥
+IsUnaryRight (Sim dir) A (Listing L) = ⊥
+IsUnaryRight (Sim dir) A (Related found states pairs) = (found ≡ dir) × (states ≡ A.states) × IsGreatest dir A pairs
+IsUnaryRight (Sim dir) A (Shown B C c) = ⊥
+IsUnaryRight Red A (Listing L) = IsCanonicalQuotient A L
+IsUnaryRight Red A (Related dir states pairs) = ⊥
+IsUnaryRight Red A (Shown B C c) = ⊥
+
+-- the answer is right for a command on A and B
+abbrev pub IsBinaryRight : BinaryCommand → Automaton → Automaton → Answer → Type 0
+IsBinaryRight (Union trim) A B (Listing L) = (U : Automaton) × IsUnion A B U × IsForm trim U L
+IsBinaryRight (Union trim) A B (Related dir states pairs) = ⊥
+IsBinaryRight (Union trim) A B (Shown C D c) = ⊥
+IsBinaryRight (Isect trim) A B (Listing L) = (P : Automaton) × IsProduct A B P × IsForm trim P L
+IsBinaryRight (Isect trim) A B (Related dir states pairs) = ⊥
+IsBinaryRight (Isect trim) A B (Shown C D c) = ⊥
+IsBinaryRight (Incl dir sim budget) A B (Listing L) = ⊥
+IsBinaryRight (Incl dir sim budget) A B (Related found states pairs) = ⊥
+IsBinaryRight (Incl dir sim budget) A B (Shown C D c) = (C ≡ A) × (D ≡ B) × IsInclusionAnswer dir sim budget A B c
+
 -- the answer is right for the request, where its files spell these automata
 abbrev pub IsRight : Request → List Automaton → Answer → Type 0
-IsRight (Load trim file) automata (Listing L) = OfOne (λ A. IsForm trim A L) automata
-IsRight (Load trim file) automata (Related dir states pairs) = ⊥
-IsRight (Load trim file) automata (Shown A B c) = ⊥
-IsRight (Union trim first second) automata (Listing L) = OfTwo (λ A B. (U : Automaton) × IsUnion A B U × IsForm trim U L) automata
-IsRight (Union trim first second) automata (Related dir states pairs) = ⊥
-IsRight (Union trim first second) automata (Shown A B c) = ⊥
-IsRight (Isect trim first second) automata (Listing L) = OfTwo (λ A B. (P : Automaton) × IsProduct A B P × IsForm trim P L) automata
-IsRight (Isect trim first second) automata (Related dir states pairs) = ⊥
-IsRight (Isect trim first second) automata (Shown A B c) = ⊥
-IsRight (Sim dir file) automata (Listing L) = ⊥
-IsRight (Sim dir file) automata (Related found states pairs) = OfOne (λ A. (found ≡ dir) × (states ≡ A.states) × IsGreatest dir A pairs) automata
-IsRight (Sim dir file) automata (Shown A B c) = ⊥
-IsRight (Red file) automata (Listing L) = OfOne (λ A. IsCanonicalQuotient A L) automata
-IsRight (Red file) automata (Related dir states pairs) = ⊥
-IsRight (Red file) automata (Shown A B c) = ⊥
-IsRight (Incl sim budget first second) automata (Listing L) = ⊥
-IsRight (Incl sim budget first second) automata (Related dir states pairs) = ⊥
-IsRight (Incl sim budget first second) automata (Shown A B c) = OfTwo (λ first second. (A ≡ first) × (B ≡ second) × IsInclusionAnswer sim budget A B c) automata
+IsRight (Unary command file) automata answer = OfOne (λ A. IsUnaryRight command A answer) automata
+IsRight (Binary command first second) automata answer = OfTwo (λ A B. IsBinaryRight command A B answer) automata
 
 -- the bytes that are written for an answer
 abbrev pub answer_text : Answer → List ℕ

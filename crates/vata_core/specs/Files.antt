@@ -1,5 +1,5 @@
 -- What the files of a request say.
-use Rattle.std.specs.Prelude.{◌≡◌, ℕ, ◌<◌, ◌≤◌, List, length, take, None, Some, ⊤}
+use Rattle.std.specs.Prelude.{◌≡◌, ℕ, ◌+◌, ◌<◌, ◌≤◌, List, length, take, drop, None, Some, ⊤, ◌==◌, if◌then◌else◌}
 use Rattle.std.specs.declared.option.Option.{Option}
 use Rattle.std.specs.List.{AllZip}
 use Rattle.vata_outside.specs.Outside.{File, bytes_of}
@@ -46,6 +46,19 @@ AreSpelled files names As = AllZip (IsSpelled files) names As
 pub record ComesTo (files : Option (List File)) (names : List (List ℕ)) (place : ℕ) (name : List ℕ) : Type 0 where
   pub stands : IsAt names place name
   pub before : (As : List Automaton) × AreSpelled files (take place names) As
+
+-- the most bytes that the file at a place may have: 128 mebibytes for the certificate, 32 for an automaton
+abbrev pub most_bytes : ℕ → ℕ
+most_bytes place = if place == 2 then 134217728 else 33554432
+
+-- of the bytes of that name, where they are told, at most so many were read, and these are left
+abbrev pub IsLeftOf : Option (List File) → List ℕ → ℕ → Option (List ℕ) → Type 0
+IsLeftOf files name most left = Told files name (λ bytes. (n : ℕ) × (n ≤ most) × (left ≡ Some (drop n bytes)))
+
+-- of one of the files of these names at most one byte more than it may have was read
+abbrev pub IsLeftOfOne : Option (List File) → List (List ℕ) → Option (List ℕ) → Type 0
+IsLeftOfOne files names left =
+    (place : ℕ) × (name : List ℕ) × IsAt names place name × IsLeftOf files name (most_bytes place + 1) left
 
 -- the files before the one at the place spell automata, and the bytes of that one have P
 pub record IsRefused (files : Option (List File)) (names : List (List ℕ)) (P : List ℕ → Type 0) (place : ℕ) : Type 0 where

@@ -38,6 +38,12 @@ accepted_line Undecided = codes "accepted: undecided\n"
 unfoldable pub refused_line : ℕ → ℕ → List ℕ
 refused_line condition place = codes "refused: condition " ++ decimal condition ++ codes " place " ++ decimal place ++ codes "\n"
 
+-- the status of a run that wrote a certificate which shows this
+abbrev pub shown_status : Verdict → Status
+shown_status Included = status.Done
+shown_status NotIncluded = status.No
+shown_status Undecided = status.Undecided
+
 -- the bytes that are written for a judgement
 abbrev pub judgement_line : Judgement → List ℕ
 judgement_line (Accepted verdict) = accepted_line verdict

@@ -1,4 +1,5 @@
 pub mod Request
+pub mod Inclusion
 pub mod Answer
 pub mod Limits
 pub mod RelationText

@@ -1,11 +1,17 @@
 -- The limits of a command: what is counted, and when it is over its number.
-use Rattle.std.specs.Prelude.{◌<◌, ◌⊎◌, ℕ, List, length}
+use Rattle.std.specs.Prelude.{◌<◌, ◌⊎◌, ℕ, ◌+◌, List, length}
 use Rattle.tree_definitions.specs.Automaton.{Automaton}
 use Rattle.tree_definitions.specs.Joint.{joint_symbols}
 use Rattle.bool_ops.specs.Results.{HasMoreRules, HasMoreStates}
 use Rattle.quotient.specs.Merged.{HasMoreUseful}
 use Rattle.vata_core.specs.Answer.{OfOne, OfTwo}
-use Rattle.vata_core.specs.Request.{Request, Load, Union, Isect, Sim, Red, Incl}
+use Rattle.vata_words.specs.declared.request.Dir.{Dir}
+use Rattle.vata_words.specs.declared.request.Dir.TheVariants.{Up, Down}
+use Rattle.vata_core.specs.Request.{Request, Unary, Binary}
+use Rattle.vata_core.specs.declared.words.UnaryCommand.{UnaryCommand}
+use Rattle.vata_core.specs.declared.words.UnaryCommand.TheVariants.{Load, Sim, Red}
+use Rattle.vata_core.specs.declared.words.BinaryCommand.{BinaryCommand}
+use Rattle.vata_core.specs.declared.words.BinaryCommand.TheVariants.{Union, Isect, Incl}
 use Rattle.vata_core.specs.declared.measure.Measure.{Measure}
 use Rattle.vata_core.specs.declared.measure.Measure.TheVariants.{Symbols, Pairs, Rules, Relation}
 
@@ -43,20 +49,33 @@ ExceedsQuotient Pairs A = ⊥
 ExceedsQuotient Rules A = ⊥
 ExceedsQuotient Relation A = HasMoreUseful A 20000
 
-abbrev pub ExceedsInclusion : Measure → Automaton → Automaton → Type 0
-ExceedsInclusion Symbols A B = HasManySymbols A B
-ExceedsInclusion Pairs A B = ⊥
-ExceedsInclusion Rules A B = ⊥
-ExceedsInclusion Relation A B = (20000 < length A.states) ⊎ (20000 < length B.states)
+-- a relation that a search of this direction needs has more than 20,000 states
+abbrev pub HasManyStates : Dir → Automaton → Automaton → Type 0
+HasManyStates Up A B = (20000 < length A.states) ⊎ (20000 < length B.states)
+HasManyStates Down A B = 20000 < length A.states + length B.states
+
+abbrev pub ExceedsInclusion : Dir → Measure → Automaton → Automaton → Type 0
+ExceedsInclusion dir Symbols A B = HasManySymbols A B
+ExceedsInclusion dir Pairs A B = ⊥
+ExceedsInclusion dir Rules A B = ⊥
+ExceedsInclusion dir Relation A B = HasManyStates dir A B
+
+-- for A the measure of a command is over its number
+abbrev pub ExceedsUnary : UnaryCommand → Automaton → Measure → Type 0
+ExceedsUnary (Load trim) A what = ⊥
+ExceedsUnary (Sim dir) A what = ExceedsSimulation what A
+ExceedsUnary Red A what = ExceedsQuotient what A
+
+-- for A and B it is
+abbrev pub ExceedsBinary : BinaryCommand → Automaton → Automaton → Measure → Type 0
+ExceedsBinary (Union trim) A B what = ExceedsUnion what A B
+ExceedsBinary (Isect trim) A B what = ExceedsProduct what A B
+ExceedsBinary (Incl dir sim budget) A B what = ExceedsInclusion dir what A B
 
 -- for these automata the request's measure is over its number
 abbrev pub Exceeds : Request → List Automaton → Measure → Type 0
-Exceeds (Load trim file) As what = ⊥
-Exceeds (Union trim first second) As what = OfTwo (ExceedsUnion what) As
-Exceeds (Isect trim first second) As what = OfTwo (ExceedsProduct what) As
-Exceeds (Sim dir file) As what = OfOne (ExceedsSimulation what) As
-Exceeds (Red file) As what = OfOne (ExceedsQuotient what) As
-Exceeds (Incl sim budget first second) As what = OfTwo (ExceedsInclusion what) As
+Exceeds (Unary command file) As what = OfOne (λ A. ExceedsUnary command A what) As
+Exceeds (Binary command first second) As what = OfTwo (λ A B. ExceedsBinary command A B what) As
 
 -- of the measures that are over their numbers it is the first
 pub record IsFirstOver (Over : Measure → Type 0) (what : Measure) : Type 0 where

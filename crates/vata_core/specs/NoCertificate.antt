@@ -1,5 +1,5 @@
 -- What the files of the checker say where there is nothing to judge.
-use Rattle.std.specs.Prelude.{◌≡◌, ℕ, ◌<◌, ◌≤◌, List, [], ◌∷◌, length, ◌==◌, if◌then◌else◌}
+use Rattle.std.specs.Prelude.{◌≡◌, ℕ, ◌<◌, ◌≤◌, List, [], ◌∷◌, length}
 use Rattle.std.specs.declared.option.Option.{Option}
 use Rattle.vata_outside.specs.Outside.{File}
 use Rattle.tree_definitions.specs.Automaton.{Automaton}
@@ -7,12 +7,8 @@ use Rattle.witness_trees.specs.Judged.{Verdict, BadAt, UnknownAt}
 use Rattle.incl_certificate.specs.Text.{Said, judged_certificate}
 use Rattle.vata_core.specs.CheckRequest.{CheckRequest, all_of, automata_of}
 use Rattle.timbuk_definitions.specs.Place.{Limit}
-use Rattle.vata_core.specs.Files.{AreSpelled, IsBadAt, IsOverAt, IsRefused, Told}
+use Rattle.vata_core.specs.Files.{AreSpelled, IsBadAt, IsOverAt, IsRefused, Told, most_bytes}
 use Rattle.vata_core.specs.Lines.{bytes_line, limit_line, name_line, syntax_line}
-
--- the most bytes that the file at a place may have: 128 mebibytes for the certificate, 32 for an automaton
-abbrev pub most_bytes : ℕ → ℕ
-most_bytes place = if place == 2 then 134217728 else 33554432
 
 abbrev pub IsTooLongAt : ℕ → List ℕ → Type 0
 IsTooLongAt place bytes = most_bytes place < length bytes

@@ -1,5 +1,5 @@
 -- What the words of a command line ask for.
-use Rattle.std.specs.Prelude.{ℕ, Bool, List, [], ◌∷◌, Option, None, Some, Result, Ok, Err, unwrap_or, slice_get}
+use Rattle.std.specs.Prelude.{ℕ, List, [], ◌∷◌, Option, None, Some, Result, Ok, Err, unwrap_or, slice_get}
 use Rattle.vata_words.specs.Requests.{request_in}
 use Rattle.vata_words.specs.declared.request.Encoding.{Encoding}
 use Rattle.vata_words.specs.declared.request.Encoding.TheVariants.{Expl, Bdd}
@@ -8,27 +8,21 @@ use Rattle.vata_words.specs.declared.request.Dir.TheVariants.{Up, Down}
 use Rattle.vata_words.specs.declared.request.Request.TheVariants as asks
 use Rattle.vata_words.specs.declared.request.Request.{Request as Asked}
 use Rattle.vata_words.specs.declared.request.WordFault.{WordFault}
+use Rattle.vata_core.specs.declared.words.UnaryCommand.{UnaryCommand}
+use Rattle.vata_core.specs.declared.words.UnaryCommand.TheVariants.{Load, Sim, Red}
+use Rattle.vata_core.specs.declared.words.BinaryCommand.{BinaryCommand}
+use Rattle.vata_core.specs.declared.words.BinaryCommand.TheVariants.{Union, Isect, Incl}
 use Rattle.vata_core.specs.Usage.{fault_line, not_built_line}
 
--- what is to be printed: the canonical text of a file's automaton, or of the union or the product of two,
--- trimmed or not; a file's greatest simulation; the canonical text of a file's quotient; or what shows whether
--- the first file's automaton is included in the second's, by an upward search with or without simulations
+-- a command, and the names of the one or two files whose automata it is about
 pub data Request : Type 0 where
-  Load : (trim : Bool) (file : List ℕ) → Request
-  Union : (trim : Bool) (first second : List ℕ) → Request
-  Isect : (trim : Bool) (first second : List ℕ) → Request
-  Sim : (dir : Dir) (file : List ℕ) → Request
-  Red : (file : List ℕ) → Request
-  Incl : (sim : Bool) (budget : ℕ) (first second : List ℕ) → Request
+  Unary : (command : UnaryCommand) (file : List ℕ) → Request
+  Binary : (command : BinaryCommand) (first second : List ℕ) → Request
 
 -- the names of the files that are read, in order
 abbrev pub files_of : Request → List (List ℕ)
-files_of (Load trim file) = file ∷ []
-files_of (Union trim first second) = first ∷ second ∷ []
-files_of (Isect trim first second) = first ∷ second ∷ []
-files_of (Sim dir file) = file ∷ []
-files_of (Red file) = file ∷ []
-files_of (Incl sim budget first second) = first ∷ second ∷ []
+files_of (Unary command file) = file ∷ []
+files_of (Binary command first second) = first ∷ second ∷ []
 
 -- the word at a place
 abbrev pub word_at : List (List ℕ) → ℕ → List ℕ
@@ -46,12 +40,13 @@ when_upward Down request = None
 
 -- what is built of what may be asked for
 abbrev pub built : List (List ℕ) → Asked → Option Request
-built words (asks.Load encoding trim file) = when_explicit encoding (Load trim (word_at words file))
-built words (asks.Union encoding trim first second) = when_explicit encoding (Union trim (word_at words first) (word_at words second))
-built words (asks.Isect encoding trim first second) = when_explicit encoding (Isect trim (word_at words first) (word_at words second))
-built words (asks.Sim encoding dir file) = when_explicit encoding (Sim dir (word_at words file))
-built words (asks.Red encoding file) = when_explicit encoding (Red (word_at words file))
-built words (asks.Incl encoding dir sim budget first second) = when_upward dir (when_explicit encoding (Incl sim budget (word_at words first) (word_at words second)))
+built words (asks.Load encoding trim file) = when_explicit encoding (Unary (Load trim) (word_at words file))
+built words (asks.Union encoding trim first second) = when_explicit encoding (Binary (Union trim) (word_at words first) (word_at words second))
+built words (asks.Isect encoding trim first second) = when_explicit encoding (Binary (Isect trim) (word_at words first) (word_at words second))
+built words (asks.Sim encoding dir file) = when_explicit encoding (Unary (Sim dir) (word_at words file))
+built words (asks.Red encoding file) = when_explicit encoding (Unary Red (word_at words file))
+built words (asks.Incl encoding dir sim budget first second) =
+    when_upward dir (when_explicit encoding (Binary (Incl dir sim budget) (word_at words first) (word_at words second)))
 built words (asks.Bench encoding n) = None
 
 abbrev pub granted : List (List ℕ) → Result Asked WordFault → Option Request

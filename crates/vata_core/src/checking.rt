@@ -1,12 +1,13 @@
 //! The top call of `vata_check`.
 
-ghost use Rattle.std.specs.Prelude.{◌≡◌, ◌≢◌, ◌⊎◌, ◌↔◌, List, ℕ, None, Some, [], ◌∷◌, map, IfOk, IfSome, string_bytes};
+ghost use Rattle.std.specs.Prelude.{◌≡◌, ◌≢◌, ◌≤◌, ◌⊎◌, ◌↔◌, List, ℕ, None, Some, [], ◌∷◌, map, IfOk, IfSome, string_bytes};
 ghost use Rattle.std.specs.Io.KnownBytes.{Appends};
 ghost use Rattle.vata_outside.specs.Outside.{File, Rose};
 ghost use Rattle.tree_definitions.specs.Automaton.{Automaton};
 ghost use Rattle.certificate_kinds.specs.declared.certificate.Certificate.{Certificate};
+ghost use Rattle.incl_certificate.specs.Checked.{FailsAt, Holds};
 ghost use Rattle.vata_core.specs.CheckRequest.{CheckRequest, all_of, automata_of, check_request_of, check_usage_line};
-ghost use Rattle.vata_core.specs.Files.{AreSpelled, Told};
+ghost use Rattle.vata_core.specs.Files.{AreSpelled, IsLeftOfOne, Told};
 ghost use Rattle.vata_core.specs.Judgement.{IsCertificateOf, Judges, JudgesInPart, accepted_line, judgement_line, judgement_status, refused_line};
 ghost use Rattle.vata_core.specs.Lines.{Tells, memory_line, read_line, write_line};
 ghost use Rattle.vata_core.specs.NoCertificate.{IsBeyond, IsFaulty};
@@ -14,10 +15,9 @@ ghost use Rattle.vata_core.specs.Outcome.{FailsToRead, IsAnswered, IsSilent};
 ghost use Rattle.vata_core.specs.Refusals.{reason_status};
 
 use crate::judging::{Judgement, Unjudged, judgement_of};
-use crate::loading::Refusal;
 use crate::running::status_of;
 use crate::status::Status;
-use crate::telling::{tell_fault, tell_reason, tell_refusal, tell_write_fault};
+use crate::telling::{tell_fault, tell_memory, tell_reason, tell_write_fault};
 use crate::words::files_to_check;
 use incl_certificate::Verdict;
 use std::alloc::{AllocError, Global};
@@ -72,6 +72,7 @@ fn unjudged(reason: Unjudged) -> Status
         Unjudged::File { refusal, .. } => status_of(refusal),
         Unjudged::BadText { .. } => Status::Syntax,
         Unjudged::UnknownName { .. } => Status::Syntax,
+        Unjudged::Memory => Status::Memory,
     }
 }
 
@@ -94,6 +95,14 @@ pub fn check_run<F: Files, K: Sink, E: Sink>(
         (JudgesInPart (F.files files.old) (K.written out.old) (K.written out.new)) }
     ensures silent { IsSilent result → Appends (K.written out.old) (K.written out.new) [] }
     ensures decided { result ≢ Status.Undecided }
+
+    // The files stay as they were, and their faults are counted on; of a file at most a byte more than its limit is
+    // read, and none where the words ask for nothing.
+    ensures same { F.files files.new ≡ F.files files.old }
+    ensures later { F.faults files.old ≤ F.faults files.new }
+    ensures left { result ≢ Status.ReadFault → IfSome (check_request_of (map string_bytes words.now)) (λ request.
+        IsLeftOfOne (F.files files.old) (all_of request) (F.left files.new)) }
+    ensures unread { result ≡ Status.Usage → files.new ≡ files.old }
 
     // Each other status has its cause, which is told.
     ensures usage { (result ≡ Status.Usage) ↔ (check_request_of (map string_bytes words.now) ≡ None) }
@@ -132,6 +141,20 @@ pub fn check_run<F: Files, K: Sink, E: Sink>(
         → AreSpelled (Some fs) (automata_of request) (A ∷ B ∷ []) → Told (Some fs) request.certificate (IsCertificateOf A B c)
         → ¬ Rose (F.faults files.old) (F.faults files.new) → ¬ Rose (K.faults out.old) (K.faults out.new)
         → IsAnswered result ⊎ (result ≡ Status.Memory) }
+
+    // Then what meets all its conditions is accepted, and what fails one is refused. It never does both.
+    ensures accepts { (request : CheckRequest) (fs : List File) (A B : Automaton) (c : Certificate) (verdict : Verdict)
+        → check_request_of (map string_bytes words.now) ≡ Some request → F.files files.old ≡ Some fs
+        → AreSpelled (Some fs) (automata_of request) (A ∷ B ∷ []) → Told (Some fs) request.certificate (IsCertificateOf A B c)
+        → ¬ Rose (F.faults files.old) (F.faults files.new) → ¬ Rose (K.faults out.old) (K.faults out.new)
+        → Holds A B c verdict
+        → ((result ≡ Status.Done) × Appends (K.written out.old) (K.written out.new) (accepted_line verdict)) ⊎ (result ≡ Status.Memory) }
+    ensures refuses { (request : CheckRequest) (fs : List File) (A B : Automaton) (c : Certificate) (condition place : ℕ)
+        → check_request_of (map string_bytes words.now) ≡ Some request → F.files files.old ≡ Some fs
+        → AreSpelled (Some fs) (automata_of request) (A ∷ B ∷ []) → Told (Some fs) request.certificate (IsCertificateOf A B c)
+        → ¬ Rose (F.faults files.old) (F.faults files.new) → ¬ Rose (K.faults out.old) (K.faults out.new)
+        → FailsAt A B c condition place
+        → (result ≡ Status.No) ⊎ (result ≡ Status.Memory) }
 {
     let (first, second, certificate) = match files_to_check(words) {
         Ok(names) => names,
@@ -148,7 +171,7 @@ pub fn check_run<F: Files, K: Sink, E: Sink>(
         }
     };
     let Ok(line) = line_of(alloc, judgement) else {
-        tell_refusal(diag, 0, Refusal::Memory);
+        tell_memory(diag);
         return Status::Memory;
     };
     match write_all_of(out, &line) {

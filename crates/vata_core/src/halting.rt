@@ -1,10 +1,9 @@
 //! How the answer to a request comes out.
 
-ghost use Rattle.std.specs.Prelude.{◌≡◌};
-
 use crate::loading::Refusal;
 use crate::measure::Measure;
 use crate::status::Status;
+use std::alloc::AllocError;
 
 /// The text that is to be written, and the status of a run that wrote it.
 #[derive(Debug, Drop)]
@@ -16,18 +15,20 @@ pub struct Reply {
 /// Why a run has no answer.
 #[derive(Clone, Copy, Debug, PartialEq, Eq)]
 pub enum Halt {
-    /// The file at this place, which counts from 0, gives no automaton, or can't be read; or memory ran
-    /// out.
+    /// The file at this place, which counts from 0, gives no automaton, or can't be read.
     File { place: u8, refusal: Refusal },
     /// A count of the command is over its number.
     Past { what: Measure },
+    Memory,
 }
 
-pub(crate) fn no_memory() -> Halt
-    ensures { result ≡ Halt.File 0 Refusal.Memory }
-{
-    Halt::File {
-        place: 0,
-        refusal: Refusal::Memory,
+impl From<AllocError> for Halt {
+    ghost use Rattle.std.specs.Prelude.{◌≡◌};
+    ghost use Rattle.vata_core.specs.declared.halting.Halt.TheVariants.{Memory};
+
+    ghost from_gives = { λ _ e. e ≡ Memory };
+
+    fn from(_error: AllocError) -> Halt {
+        Halt::Memory
     }
 }

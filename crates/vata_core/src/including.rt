@@ -4,21 +4,21 @@ ghost use Rattle.std.specs.Prelude.{◌≡◌, ◌≤◌, IfOk, IfErr};
 ghost use Rattle.timbuk_definitions.specs.Place.{IsSmall};
 ghost use Rattle.certificate_kinds.specs.declared.certificate.Certificate.{Certificate};
 ghost use Rattle.incl_certificate.specs.Text.{certificate_text};
-ghost use Rattle.upward_inclusion.specs.Inclusion.{IsInclusionAnswer};
-ghost use Rattle.vata_core.specs.Answer.{certificate_status};
-ghost use Rattle.vata_core.specs.Limits.{ExceedsInclusion};
-ghost use Rattle.vata_core.specs.Refusals.{HasReply, IsHalted, IsOperationHalt};
-ghost use Rattle.vata_core.specs.Request.{Incl};
+ghost use Rattle.upward_inclusion.specs.Inclusion.{IsInclusionAnswer as IsUpwardAnswer};
+ghost use Rattle.vata_core.specs.Answer.{IsBinaryRight, certificate_status};
+ghost use Rattle.vata_core.specs.Inclusion.{IsInclusionAnswer};
+ghost use Rattle.vata_core.specs.Limits.{ExceedsBinary, ExceedsInclusion};
+ghost use Rattle.vata_core.specs.Refusals.{IsBuilt, IsOperationHalt, IsReplyOf};
 
-use crate::answering::two_automata;
-use crate::halting::{Halt, Reply, no_memory};
+use crate::halting::{Halt, Reply};
 use crate::measure::Measure;
 use crate::status::Status;
+use crate::words::BinaryCommand;
 use incl_certificate::{Certificate, print};
 use std::alloc::Global;
 use ta_model::Listed;
 use upward_inclusion::{InclusionError, includes_upward};
-use vata_outside::Files;
+use vata_words::Dir;
 
 /// The status of a run that wrote the certificate.
 fn status_of(certificate: &Certificate) -> Status
@@ -33,8 +33,8 @@ fn status_of(certificate: &Certificate) -> Status
     }
 }
 
-/// What shows whether the first automaton is included in the second.
-fn certificate_of(
+/// What shows whether the first automaton is included in the second, by an upward search.
+fn upward_certificate(
     alloc: Global,
     a: &Listed,
     b: &Listed,
@@ -45,9 +45,9 @@ fn certificate_of(
     requires right { IsSmall b.now }
     requires some { 1 ≤ budget }
     requires few { budget ≤ 1000000 }
-    ensures ok { IfOk result (IsInclusionAnswer sim budget a.now b.now) }
-    ensures within { IfOk result (λ _. (what : Measure) → ExceedsInclusion what a.now b.now → ⊥) }
-    ensures err { IfErr result (IsOperationHalt (λ what. ExceedsInclusion what a.now b.now)) }
+    ensures ok { IfOk result (IsUpwardAnswer sim budget a.now b.now) }
+    ensures within { IfOk result (λ _. (what : Measure) → ExceedsInclusion Dir.Up what a.now b.now → ⊥) }
+    ensures err { IfErr result (IsOperationHalt (λ what. ExceedsInclusion Dir.Up what a.now b.now)) }
 {
     match includes_upward(alloc, a, b, sim, budget) {
         Ok(certificate) => Ok(certificate),
@@ -57,53 +57,49 @@ fn certificate_of(
         Err(InclusionError::Relation) => Err(Halt::Past {
             what: Measure::Relation,
         }),
-        Err(InclusionError::Memory) => Err(no_memory()),
+        Err(InclusionError::Memory) => Err(Halt::Memory),
+    }
+}
+
+/// What shows whether the first automaton is included in the second. Searches upward alone are built.
+fn certificate_of(
+    alloc: Global,
+    dir: Dir,
+    sim: bool,
+    budget: u64,
+    a: &Listed,
+    b: &Listed,
+) -> Result<Certificate, Halt>
+    requires left { IsSmall a.now }
+    requires right { IsSmall b.now }
+    requires built { IsBuilt (BinaryCommand.Incl dir sim budget) }
+    ensures ok { IfOk result (IsInclusionAnswer dir sim budget a.now b.now) }
+    ensures within { IfOk result (λ _. (what : Measure) → ExceedsInclusion dir what a.now b.now → ⊥) }
+    ensures err { IfErr result (IsOperationHalt (λ what. ExceedsInclusion dir what a.now b.now)) }
+{
+    match dir {
+        Dir::Up => upward_certificate(alloc, a, b, sim, budget),
+        Dir::Down => unreachable!(),
     }
 }
 
 /// The text of what shows whether the first automaton is included in the second.
-fn reply_of(alloc: Global, a: &Listed, b: &Listed, sim: bool, budget: u64) -> Result<Reply, Halt>
-    requires left { IsSmall a.now }
-    requires right { IsSmall b.now }
-    requires some { 1 ≤ budget }
-    requires few { budget ≤ 1000000 }
-    ensures ok { IfOk result (λ reply. (c : Certificate) × IsInclusionAnswer sim budget a.now b.now c
-        × (reply.text.items ≡ certificate_text a.now b.now c) × (reply.status ≡ certificate_status c)) }
-    ensures within { IfOk result (λ _. (what : Measure) → ExceedsInclusion what a.now b.now → ⊥) }
-    ensures err { IfErr result (IsOperationHalt (λ what. ExceedsInclusion what a.now b.now)) }
-{
-    let certificate = match certificate_of(alloc, a, b, sim, budget) {
-        Ok(certificate) => certificate,
-        Err(halt) => return Err(halt),
-    };
-    let status = status_of(&certificate);
-    match print(alloc, a, b, &certificate) {
-        Ok(text) => Ok(Reply { text, status }),
-        Err(_) => Err(no_memory()),
-    }
-}
-
-/// The text of what shows whether one file's automaton is included in another's.
-pub(crate) fn included<F: Files>(
+pub fn included(
     alloc: Global,
-    files: &mut F,
+    dir: Dir,
     sim: bool,
     budget: u64,
-    first: &str,
-    second: &str,
+    a: &Listed,
+    b: &Listed,
 ) -> Result<Reply, Halt>
-    requires some { 1 ≤ budget }
-    requires few { budget ≤ 1000000 }
-    ensures later { F.faults files.old ≤ F.faults files.new }
-    ensures ok { IfOk result (HasReply (F.files files.old) (Incl sim budget first.now second.now)) }
-    ensures err { IfErr result (IsHalted (F.files files.old) (Incl sim budget first.now second.now) (F.faults files.old) (F.faults files.new)) }
+    requires left { IsSmall a.now }
+    requires right { IsSmall b.now }
+    requires built { IsBuilt (BinaryCommand.Incl dir sim budget) }
+    ensures ok { IfOk result (IsReplyOf (IsBinaryRight (BinaryCommand.Incl dir sim budget) a.now b.now) (ExceedsBinary (BinaryCommand.Incl dir sim budget) a.now b.now)) }
+    ensures err { IfErr result (IsOperationHalt (ExceedsBinary (BinaryCommand.Incl dir sim budget) a.now b.now)) }
 {
-    let (a, b) = match two_automata(alloc, files, first, second) {
-        Ok(both) => both,
-        Err(halt) => return Err(halt),
-    };
-    match reply_of(alloc, &a, &b, sim, budget) {
-        Ok(reply) => Ok(reply),
-        Err(halt) => Err(halt),
-    }
+    let certificate = certificate_of(alloc, dir, sim, budget, a, b)?;
+    let status = status_of(&certificate);
+    let text = print(alloc, a, b, &certificate)?;
+    Ok(Reply { text, status })
 }

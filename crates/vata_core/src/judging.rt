@@ -1,11 +1,11 @@
 //! Judging a certificate against two automata.
 
-ghost use Rattle.std.specs.Prelude.{◌≡◌, ◌<◌, ◌≤◌, length, IfOk, IfErr};
+ghost use Rattle.std.specs.Prelude.{◌≡◌, ◌<◌, ◌≤◌, [], ◌∷◌, length, IfOk, IfErr};
 ghost use Rattle.certificate_kinds.specs.declared.certificate.Certificate.{Certificate};
-ghost use Rattle.vata_core.specs.Files.{IsSpelled, Told};
+ghost use Rattle.vata_core.specs.Files.{IsLeftOf, IsLeftOfOne, IsSpelled, Told};
 ghost use Rattle.vata_core.specs.Judgement.{HasJudgement, IsCertificateOf, IsJudgement, judgement_line, judgement_status};
 ghost use Rattle.vata_core.specs.NoCertificate.{IsTooLongAt};
-ghost use Rattle.vata_core.specs.Refusals.{IsFileRefused, IsUnjudged, IsUnread, reason_status};
+ghost use Rattle.vata_core.specs.Refusals.{IsFileRefused, IsNoReadFault, IsUnjudged, IsUnread, reason_status};
 
 use crate::loading::{Refusal, automaton_of, certificate_text_of};
 use crate::status::Status;
@@ -30,6 +30,7 @@ pub enum Unjudged {
     BadText { at: u64 },
     /// The name that begins there is that of no symbol.
     UnknownName { at: u64 },
+    Memory,
 }
 
 /// The judgement of a certificate's text for two automata.
@@ -42,21 +43,12 @@ fn judge(alloc: Global, a: &Listed, b: &Listed, text: &[u8]) -> Result<Judgement
         Ok(certificate) => certificate,
         Err(CertError::BadText { at }) => return Err(Unjudged::BadText { at }),
         Err(CertError::UnknownName { at }) => return Err(Unjudged::UnknownName { at }),
-        Err(CertError::Memory) => return Err(no_memory()),
+        Err(CertError::Memory) => return Err(Unjudged::Memory),
     };
     match check(alloc, a, b, &certificate) {
         Ok(verdict) => Ok(Judgement::Accepted { verdict }),
         Err(CheckError::Fails { condition, place }) => Ok(Judgement::Refused { condition, place }),
-        Err(CheckError::Memory) => Err(no_memory()),
-    }
-}
-
-fn no_memory() -> Unjudged
-    ensures { result ≡ Unjudged.File 0 Refusal.Memory }
-{
-    Unjudged::File {
-        place: 0,
-        refusal: Refusal::Memory,
+        Err(CheckError::Memory) => Err(Unjudged::Memory),
     }
 }
 
@@ -70,6 +62,7 @@ fn automaton_at<F: Files>(
     requires { place < 2 }
     ensures same { F.files files.new ≡ F.files files.old }
     ensures later { F.faults files.old ≤ F.faults files.new }
+    ensures left { IsNoReadFault result → IsLeftOf (F.files files.old) name.now 33554433 (F.left files.new) }
     ensures ok { IfOk result (λ a. IsSpelled (F.files files.old) name.now a) }
     ensures err { IfErr result (IsFileRefused (F.files files.old) name.now (F.faults files.old) (F.faults files.new) place) }
 {
@@ -81,7 +74,9 @@ fn automaton_at<F: Files>(
 
 /// The bytes of the certificate's file.
 fn certificate_at<F: Files>(alloc: Global, files: &mut F, name: &str) -> Result<Vec<u8>, Unjudged>
+    ensures same { F.files files.new ≡ F.files files.old }
     ensures later { F.faults files.old ≤ F.faults files.new }
+    ensures left { IsNoReadFault result → IsLeftOf (F.files files.old) name.now 134217729 (F.left files.new) }
     ensures ok { IfOk result (λ v. Told (F.files files.old) name.now (λ text. v.items ≡ text)) }
     ensures short { IfOk result (λ v. length v.items ≤ 134217728) }
     ensures err { IfErr result (IsFileRefused (F.files files.old) name.now (F.faults files.old) (F.faults files.new) 2) }
@@ -100,7 +95,9 @@ pub fn judgement_of<F: Files>(
     second: &str,
     certificate: &str,
 ) -> Result<Judgement, Unjudged>
+    ensures same { F.files files.new ≡ F.files files.old }
     ensures later { F.faults files.old ≤ F.faults files.new }
+    ensures left { IsNoReadFault result → IsLeftOfOne (F.files files.old) (first.now ∷ second.now ∷ certificate.now ∷ []) (F.left files.new) }
     ensures ok { IfOk result (HasJudgement (F.files files.old) (record { first = first.now; second = second.now; certificate = certificate.now })) }
     ensures err { IfErr result (IsUnjudged (F.files files.old) (record { first = first.now; second = second.now; certificate = certificate.now })
         (F.faults files.old) (F.faults files.new)) }

@@ -3,10 +3,12 @@
 #![tactic(auto)]
 
 mod answering;
+mod asking;
 mod checking;
 mod halting;
 mod including;
 mod judging;
+mod laws;
 mod loading;
 mod matrix_text;
 mod measure;
@@ -16,5 +18,6 @@ mod telling;
 mod words;
 
 pub use checking::check_run;
+pub use laws::{right_answers_are_equal, written_evidence_is_accepted};
 pub use running::run;
 pub use status::Status;

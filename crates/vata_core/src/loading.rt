@@ -1,11 +1,11 @@
 //! Reading one file.
 
-ghost use Rattle.std.specs.Prelude.{◌≡◌, ◌⊎◌, ◌<◌, ◌≤◌, ◌+◌, ℕ, false, length, take, vec_len, IfOk, IfSome, IsErrOf};
+ghost use Rattle.std.specs.Prelude.{◌≡◌, ◌⊎◌, ◌<◌, ◌≤◌, ◌+◌, ℕ, List, false, length, take, vec_len, IfOk, IfSome, IsErrOf};
 ghost use Rattle.std.specs.Io.KnownBytes.{Consumes, IsAtEnd, ReadConsumes};
 ghost use Rattle.vata_outside.specs.Outside.{HasCause, IsMissing, Rose};
 ghost use Rattle.timbuk_definitions.specs.Place.{IsSmall};
 ghost use Rattle.timbuk_text.specs.Taking.{limit_of};
-ghost use Rattle.vata_core.specs.Files.{IsBadAt, IsOverAt, IsSpelled, IsTooLong, Told};
+ghost use Rattle.vata_core.specs.Files.{IsBadAt, IsLeftOf, IsOverAt, IsSpelled, IsTooLong, Told};
 ghost use Rattle.vata_core.specs.NoCertificate.{IsTooLongAt};
 
 use std::alloc::{AllocError, Global};
@@ -68,6 +68,7 @@ fn next_piece<F: Files>(
     ensures size { length buffer.new ≡ 65536 }
     ensures few { IfOk result (λ n. (n ≤ 65536) × (total + n ≤ most)) }
     ensures taken { IfOk result (λ n. Consumes (F.left files.old) (F.left files.new) (take n buffer.new)) }
+    ensures most { ¬ IsErrOf result Refusal.ReadFault → (bytes : List ℕ) × (total + length bytes ≤ most + 1) × Consumes (F.left files.old) (F.left files.new) bytes }
     ensures end { IfOk result (λ n. n ≡ 0 → IsAtEnd (F.left files.new)) }
     ensures long { IsErrOf result Refusal.TooLong → IfSome (F.left files.old) (λ bytes. most < total + length bytes) }
     ensures fault { IsErrOf result Refusal.ReadFault → Rose (F.faults files.old) (F.faults files.new) }
@@ -87,6 +88,7 @@ fn next_piece<F: Files>(
 /// All that is left of the selected file, which holds an automaton.
 fn rest_of<F: Files>(alloc: Global, files: &mut F) -> Result<Reader, Refusal>
     ensures same { F.files files.new ≡ F.files files.old }
+    ensures taken { ¬ IsErrOf result Refusal.ReadFault → (bytes : List ℕ) × (length bytes ≤ 33554433) × Consumes (F.left files.old) (F.left files.new) bytes }
     ensures fresh { IfOk result (λ r. r.failed ≡ false) }
     ensures short { IfOk result (λ r. length r.text ≤ 33554432) }
     ensures text { IfOk result (λ r. IfSome (F.left files.old) (λ bytes. r.text ≡ bytes)) }
@@ -102,7 +104,10 @@ fn rest_of<F: Files>(alloc: Global, files: &mut F) -> Result<Reader, Refusal>
     };
     let mut total: usize = 0;
     loop {
-        let count = next_piece(files, &mut buffer, total, MOST_BYTES)?;
+        let count = match next_piece(files, &mut buffer, total, MOST_BYTES) {
+            Ok(count) => count,
+            Err(refusal) => return Err(refusal),
+        };
         if count == 0 {
             return Ok(reader);
         }
@@ -117,6 +122,7 @@ fn rest_of<F: Files>(alloc: Global, files: &mut F) -> Result<Reader, Refusal>
 /// All that is left of the selected file, which holds a certificate.
 fn bytes_left<F: Files>(alloc: Global, files: &mut F) -> Result<Vec<u8>, Refusal>
     ensures same { F.files files.new ≡ F.files files.old }
+    ensures taken { ¬ IsErrOf result Refusal.ReadFault → (bytes : List ℕ) × (length bytes ≤ 134217729) × Consumes (F.left files.old) (F.left files.new) bytes }
     ensures short { IfOk result (λ v. length v.items ≤ 134217728) }
     ensures text { IfOk result (λ v. IfSome (F.left files.old) (λ bytes. v.items ≡ bytes)) }
     ensures limit { IsErrOf result Refusal.TooLong → IfSome (F.left files.old) (IsTooLongAt 2) }
@@ -130,7 +136,10 @@ fn bytes_left<F: Files>(alloc: Global, files: &mut F) -> Result<Vec<u8>, Refusal
         return Err(Refusal::Memory);
     };
     loop {
-        let count = next_piece(files, &mut buffer, text.len(), MOST_CERTIFICATE_BYTES)?;
+        let count = match next_piece(files, &mut buffer, text.len(), MOST_CERTIFICATE_BYTES) {
+            Ok(count) => count,
+            Err(refusal) => return Err(refusal),
+        };
         if count == 0 {
             return Ok(text);
         }
@@ -147,6 +156,8 @@ pub fn certificate_text_of<F: Files>(
     files: &mut F,
     name: &str,
 ) -> Result<Vec<u8>, Refusal>
+    ensures same { F.files files.new ≡ F.files files.old }
+    ensures left { ¬ IsErrOf result Refusal.ReadFault → IsLeftOf (F.files files.old) name.now 134217729 (F.left files.new) }
     ensures ok { IfOk result (λ v. Told (F.files files.old) name.now (λ bytes. v.items ≡ bytes)) }
     ensures short { IfOk result (λ v. length v.items ≤ 134217728) }
     ensures limit { IsErrOf result Refusal.TooLong → Told (F.files files.old) name.now (IsTooLongAt 2) }
@@ -156,9 +167,9 @@ pub fn certificate_text_of<F: Files>(
     ensures no_syntax { (at : ℕ) → IsErrOf result (Refusal.Syntax at) → ⊥ }
     ensures no_limit { (what : Counted) (at : ℕ) → IsErrOf result (Refusal.Limit what at) → ⊥ }
 {
-    if files.select(name).is_err() {
+    let Ok(()) = files.select(name) else {
         return Err(Refusal::ReadFault);
-    }
+    };
     bytes_left(alloc, files)
 }
 
@@ -167,6 +178,7 @@ pub fn automaton_of<F: Files>(alloc: Global, files: &mut F, name: &str) -> Resul
     ensures ok { IfOk result (λ a. IsSpelled (F.files files.old) name.now a) }
     ensures small { IfOk result IsSmall }
     ensures same { F.files files.new ≡ F.files files.old }
+    ensures left { ¬ IsErrOf result Refusal.ReadFault → IsLeftOf (F.files files.old) name.now 33554433 (F.left files.new) }
     ensures syntax { (at : ℕ) → IsErrOf result (Refusal.Syntax at) → Told (F.files files.old) name.now (IsBadAt at) }
     ensures limit { (what : Counted) (at : ℕ) → IsErrOf result (Refusal.Limit what at) →
         Told (F.files files.old) name.now (IsOverAt (limit_of what) at) }

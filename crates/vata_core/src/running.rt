@@ -7,14 +7,16 @@ ghost use Rattle.tree_definitions.specs.Automaton.{Automaton};
 ghost use Rattle.tree_definitions.specs.Canonical.{canon};
 ghost use Rattle.timbuk_definitions.specs.Printed.{plain_text};
 ghost use Rattle.timbuk_text.specs.Taking.{limit_of};
-ghost use Rattle.vata_core.specs.Request.{Request, Incl, files_of, request_of, usage_line};
-ghost use Rattle.vata_core.specs.Files.{AreSpelled, IsBadAt, IsOverAt, IsRefused, IsSpelled, IsTooLong, Told};
+ghost use Rattle.vata_words.specs.declared.request.Dir.{Dir};
+ghost use Rattle.vata_core.specs.declared.words.BinaryCommand.{BinaryCommand};
+ghost use Rattle.vata_core.specs.Request.{Request, Binary, files_of, request_of, usage_line};
+ghost use Rattle.vata_core.specs.Files.{AreSpelled, IsBadAt, IsLeftOfOne, IsRefused};
 ghost use Rattle.vata_core.specs.Lines.{Tells, memory_line, read_line, syntax_line, write_line};
 ghost use Rattle.vata_core.specs.Limits.{IsWithin};
-ghost use Rattle.vata_core.specs.Outcome.{Answers, AnswersInPart, FailsToRead, IsAnswered, IsLimited, IsSilent, MeansOfInclusion};
+ghost use Rattle.vata_core.specs.Outcome.{Answers, AnswersInPart, AsksForAutomaton, FailsToRead, IsAnswered, IsLimited, IsSilent, MeansOfInclusion, SpeaksTrees};
 ghost use Rattle.vata_core.specs.Refusals.{halt_status, refusal_status};
 
-use crate::answering::answer_to;
+use crate::asking::answer_to;
 use crate::halting::Halt;
 use crate::loading::Refusal;
 use crate::status::Status;
@@ -42,6 +44,7 @@ fn halted(halt: Halt) -> Status
     match halt {
         Halt::File { refusal, .. } => status_of(refusal),
         Halt::Past { .. } => Status::Limit,
+        Halt::Memory => Status::Memory,
     }
 }
 
@@ -62,6 +65,20 @@ pub fn run<F: Files, K: Sink, E: Sink>(
     ensures cut { result ≡ Status.WriteFault → IfSome (request_of (map string_bytes words.now))
         (AnswersInPart (F.files files.old) (K.written out.old) (K.written out.new)) }
     ensures silent { IsSilent result → Appends (K.written out.old) (K.written out.new) [] }
+
+    // The written text of an automaton spells one that accepts the trees that are asked for.
+    ensures language { (request : Request) (fs : List File) (As : List Automaton) (old new : List ℕ) → IsAnswered result
+        → request_of (map string_bytes words.now) ≡ Some request → AsksForAutomaton request
+        → F.files files.old ≡ Some fs → AreSpelled (Some fs) (files_of request) As
+        → K.written out.old ≡ Some old → K.written out.new ≡ Some new → SpeaksTrees request As old new }
+
+    // The files stay as they were, and their faults are counted on; of a file at most a byte more than its limit is
+    // read, and none where the words ask for nothing.
+    ensures same { F.files files.new ≡ F.files files.old }
+    ensures later { F.faults files.old ≤ F.faults files.new }
+    ensures left { result ≢ Status.ReadFault → IfSome (request_of (map string_bytes words.now)) (λ request.
+        IsLeftOfOne (F.files files.old) (files_of request) (F.left files.new)) }
+    ensures unread { result ≡ Status.Usage → files.new ≡ files.old }
 
     // Each other status has its cause, which is told.
     ensures usage { (result ≡ Status.Usage) ↔ (request_of (map string_bytes words.now) ≡ None) }
@@ -100,12 +117,12 @@ pub fn run<F: Files, K: Sink, E: Sink>(
         → ¬ Rose (F.faults files.old) (F.faults files.new) → ¬ Rose (K.faults out.old) (K.faults out.new)
         → IsAnswered result ⊎ (result ≡ Status.Memory) }
 
-    // Where the words ask whether A is included in B, a yes and a no are true, and nothing is decided only where
-    // the budget is less than the number of pairs of a state of A and a set of states of B.
-    ensures inclusion { (sim : Bool) (budget : ℕ) (first second : List ℕ) (fs : List File) (A B : Automaton)
-        → request_of (map string_bytes words.now) ≡ Some (Incl sim budget first second)
+    // Where the words ask whether A is included in B, a yes and a no are true, and nothing is decided only with a
+    // small budget.
+    ensures inclusion { (dir : Dir) (sim : Bool) (budget : ℕ) (first second : List ℕ) (fs : List File) (A B : Automaton)
+        → request_of (map string_bytes words.now) ≡ Some (Binary (BinaryCommand.Incl dir sim budget) first second)
         → F.files files.old ≡ Some fs → AreSpelled (Some fs) (first ∷ second ∷ []) (A ∷ B ∷ [])
-        → MeansOfInclusion A B budget result }
+        → MeansOfInclusion dir A B budget result }
 {
     let task = match task_of(words) {
         Ok(task) => task,

@@ -91,6 +91,13 @@ fn memory() -> &'static [u8]
     b"memory\n".as_slice()
 }
 
+/// Tells that memory ran out.
+pub fn tell_memory<E: Sink>(diag: &mut E)
+    ensures { Tells (E.written diag.old) (E.written diag.new) (E.faults diag.old) (E.faults diag.new) memory_line }
+{
+    tell(diag, memory());
+}
+
 /// What stands between a file's number and the place where it passes the limit.
 #[tactic(auto, unfolding(crate::specs::Lines::limit_words))]
 fn words_of(what: Counted) -> &'static [u8]
@@ -200,7 +207,7 @@ fn tell_limit<E: Sink>(diag: &mut E, place: u8, what: Counted, at: u64)
 }
 
 /// Tells why the file at a place, which counts from 0, gives no automaton.
-pub fn tell_refusal<E: Sink>(diag: &mut E, place: u8, refusal: Refusal)
+fn tell_refusal<E: Sink>(diag: &mut E, place: u8, refusal: Refusal)
     ensures { Tells (E.written diag.old) (E.written diag.new) (E.faults diag.old) (E.faults diag.new) (refusal_line refusal place) }
 {
     match refusal {
@@ -208,7 +215,7 @@ pub fn tell_refusal<E: Sink>(diag: &mut E, place: u8, refusal: Refusal)
         Refusal::TooLong => tell_too_long(diag, place),
         Refusal::Syntax { at } => tell_syntax(diag, place, at),
         Refusal::Limit { what, at } => tell_limit(diag, place, what, at),
-        Refusal::Memory => tell(diag, memory()),
+        Refusal::Memory => tell_memory(diag),
     }
 }
 
@@ -238,6 +245,7 @@ pub fn tell_halt<E: Sink>(diag: &mut E, halt: Halt)
     match halt {
         Halt::File { place, refusal } => tell_refusal(diag, place, refusal),
         Halt::Past { what } => tell(diag, past(what)),
+        Halt::Memory => tell_memory(diag),
     }
 }
 
@@ -249,5 +257,6 @@ pub fn tell_reason<E: Sink>(diag: &mut E, reason: Unjudged)
         Unjudged::File { place, refusal } => tell_refusal(diag, place, refusal),
         Unjudged::BadText { at } => tell_syntax(diag, 2, at),
         Unjudged::UnknownName { at } => tell_name(diag, at),
+        Unjudged::Memory => tell_memory(diag),
     }
 }

@@ -3,7 +3,7 @@
 ghost use Rattle.std.specs.Prelude.{◌≡◌, map, string_bytes, Some, None, IfOk, IfErr};
 ghost use Rattle.vata_core.specs.CheckRequest.{check_request_of, check_usage_line};
 ghost use Rattle.vata_core.specs.Request.{request_of, usage_line};
-ghost use Rattle.vata_core.specs.Refusals.{HasGoodBudget, request_for, untaken_line};
+ghost use Rattle.vata_core.specs.Refusals.{IsTaken, request_for, untaken_line};
 ghost use Rattle.vata_core.specs.Usage.{fault_line};
 
 use vata_words::{Dir, Encoding, Request, WordFault};
@@ -16,34 +16,36 @@ pub enum Untaken {
     Fault(WordFault),
 }
 
+/// A command on one automaton.
+#[derive(Clone, Copy, Debug)]
+pub enum UnaryCommand {
+    /// The canonical form, with a trim that of the automaton without its useless states.
+    Load { trim: bool },
+    /// The greatest simulation of this direction.
+    Sim { dir: Dir },
+    /// The quotient.
+    Red,
+}
+
+/// A command on two automata.
+#[derive(Clone, Copy, Debug)]
+pub enum BinaryCommand {
+    Union { trim: bool },
+    Isect { trim: bool },
+    /// Whether the first is included in the second, by a search of this direction, with or without
+    /// simulations. `budget` is from 1 to 1,000,000.
+    Incl { dir: Dir, sim: bool, budget: u64 },
+}
+
 /// What a run has to do, with the names of its files.
 #[derive(Clone, Copy, Debug)]
 pub enum Task<'a> {
-    Load {
-        trim: bool,
+    Unary {
+        command: UnaryCommand,
         file: &'a str,
     },
-    Union {
-        trim: bool,
-        first: &'a str,
-        second: &'a str,
-    },
-    Isect {
-        trim: bool,
-        first: &'a str,
-        second: &'a str,
-    },
-    Sim {
-        dir: Dir,
-        file: &'a str,
-    },
-    Red {
-        file: &'a str,
-    },
-    /// `budget` is from 1 to 1,000,000.
-    Incl {
-        sim: bool,
-        budget: u64,
+    Binary {
+        command: BinaryCommand,
         first: &'a str,
         second: &'a str,
     },
@@ -53,7 +55,7 @@ pub enum Task<'a> {
 #[tactic(auto, unfolding(crate::specs::Request::request_of, crate::specs::Request::usage_line))]
 pub fn task_of(words: &[String]) -> Result<Task<'_>, Untaken>
     ensures ok { IfOk result (λ task. request_of (map string_bytes words.now) ≡ Some (request_for task)) }
-    ensures budget { IfOk result HasGoodBudget }
+    ensures taken { IfOk result IsTaken }
     ensures err { IfErr result (λ untaken. (request_of (map string_bytes words.now) ≡ None)
         × (usage_line (map string_bytes words.now) ≡ untaken_line untaken)) }
 {
@@ -64,8 +66,8 @@ pub fn task_of(words: &[String]) -> Result<Task<'_>, Untaken>
                 trim,
                 file,
             },
-        ) => Ok(Task::Load {
-            trim,
+        ) => Ok(Task::Unary {
+            command: UnaryCommand::Load { trim },
             file: words[file].as_str(),
         }),
         Ok(
@@ -75,8 +77,8 @@ pub fn task_of(words: &[String]) -> Result<Task<'_>, Untaken>
                 first,
                 second,
             },
-        ) => Ok(Task::Union {
-            trim,
+        ) => Ok(Task::Binary {
+            command: BinaryCommand::Union { trim },
             first: words[first].as_str(),
             second: words[second].as_str(),
         }),
@@ -87,8 +89,8 @@ pub fn task_of(words: &[String]) -> Result<Task<'_>, Untaken>
                 first,
                 second,
             },
-        ) => Ok(Task::Isect {
-            trim,
+        ) => Ok(Task::Binary {
+            command: BinaryCommand::Isect { trim },
             first: words[first].as_str(),
             second: words[second].as_str(),
         }),
@@ -98,8 +100,8 @@ pub fn task_of(words: &[String]) -> Result<Task<'_>, Untaken>
                 dir,
                 file,
             },
-        ) => Ok(Task::Sim {
-            dir,
+        ) => Ok(Task::Unary {
+            command: UnaryCommand::Sim { dir },
             file: words[file].as_str(),
         }),
         Ok(
@@ -107,7 +109,8 @@ pub fn task_of(words: &[String]) -> Result<Task<'_>, Untaken>
                 encoding: Encoding::Expl,
                 file,
             },
-        ) => Ok(Task::Red {
+        ) => Ok(Task::Unary {
+            command: UnaryCommand::Red,
             file: words[file].as_str(),
         }),
         Ok(
@@ -119,9 +122,12 @@ pub fn task_of(words: &[String]) -> Result<Task<'_>, Untaken>
                 first,
                 second,
             },
-        ) => Ok(Task::Incl {
-            sim,
-            budget,
+        ) => Ok(Task::Binary {
+            command: BinaryCommand::Incl {
+                dir: Dir::Up,
+                sim,
+                budget,
+            },
             first: words[first].as_str(),
             second: words[second].as_str(),
         }),

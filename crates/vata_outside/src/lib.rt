@@ -11,8 +11,6 @@ mod held;
 mod memory;
 mod outside;
 mod real;
-#[cfg(test)]
-mod tests;
 
 pub use memory::{MemFiles, MemSink};
 pub use outside::{Failed, Files, Sink, write_all_of};

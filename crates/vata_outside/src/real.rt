@@ -1,6 +1,6 @@
-//! The system's files and writers. They tell no bytes. A contract sees a writer as its count of faults.
+//! The system's files and writers. What they hand on is what the file or the writer below says of its bytes.
 
-ghost use Rattle.std.specs.Prelude.{◌≡◌, ◌⊎◌, ◌<◌, ◌≤◌, ℕ, length, IfOk, OnErr, OnOk, None, Ok, false, is_ok};
+ghost use Rattle.std.specs.Prelude.{◌≡◌, ◌⊎◌, ◌<◌, ◌≤◌, [], length, IfOk, OnErr, OnOk, None, Some, Ok, false, is_ok};
 ghost use Rattle.std.specs.Io.{ReadsAtMost};
 ghost use Rattle.std.specs.Io.KnownBytes.{IsAtEnd, ReadConsumes, WriteAppends};
 ghost use Rattle.vata_outside.specs.Outside.{HasCause, IsMissing, IsNoneAtEnd, Rose, Selects, count_after};
@@ -21,17 +21,21 @@ pub struct RealFiles<'a, R: SystemFiles> {
 
 impl<'a, R: SystemFiles> Model for RealFiles<'a, R> {
     ghost use Rattle.std.specs.Prelude.{is_some};
-    ghost use Rattle.vata_outside.specs.Real.{RealState};
+    ghost use Rattle.vata_outside.specs.Real.{RealState, left_of};
 
     ghost Value = { RealState };
 
-    ghost view = { λ s. record { faults = s.faults; is_selected = is_some s.selected } };
+    ghost view = { λ s. record {
+      faults = s.faults;
+      is_selected = is_some s.selected;
+      left = left_of R.File.remaining s.selected;
+    } };
 }
 
 impl<'a, R: SystemFiles> RealFiles<'a, R> {
     /// No file selected, and no fault so far.
     pub fn new(rt: &'a R) -> RealFiles<'a, R>
-        ensures { result ≡ record { faults = 0; is_selected = false } }
+        ensures { result ≡ record { faults = 0; is_selected = false; left = Some [] } }
     {
         RealFiles {
             rt,
@@ -66,6 +70,7 @@ impl<'a, R: SystemFiles> Files for RealFiles<'a, R> {
         // A fault is counted exactly where the call fails, and then no file is selected.
         ensures count { self.new.faults ≡ count_after result self.old.faults }
         ensures selected { self.new.is_selected ≡ is_ok result }
+        ensures none { OnErr result (self.new.left ≡ Some []) }
     {
         self.selected = None;
         match File::open(self.rt, name) {
@@ -86,88 +91,108 @@ impl<'a, R: SystemFiles> Files for RealFiles<'a, R> {
         ensures count { self.new.faults ≡ count_after result self.old.faults }
         ensures selected { self.new.is_selected ≡ self.old.is_selected }
         ensures none { self.old.is_selected ≡ false → result ≡ Ok 0 }
+        // What is read are the next bytes of the file, where it tells them, and none only at its end.
+        ensures taken { ReadConsumes self.old.left self.new.left result buf.new }
     {
-        let Some(file) = &mut self.selected else {
-            return Ok(0);
-        };
-        match file.read(buf) {
-            Ok(count) => Ok(count),
-            Err(_) => Err(fault(&mut self.faults)),
+        match &mut self.selected {
+            None => Ok(0),
+            Some(file) => read_counted(file, &mut self.faults, buf),
         }
     }
 }
 
 /// Standard output, or another writer.
 #[derive(Drop)]
-pub struct RealOut<W> {
-    to: W,
+pub struct RealOut<W: Write> {
+    out: W,
     faults: u64,
 }
 
 /// Standard error, or another writer.
 #[derive(Drop)]
-pub struct RealErr<W> {
-    to: W,
+pub struct RealErr<W: Write> {
+    err: W,
     faults: u64,
 }
 
-impl<W> Model for RealOut<W> {
-    ghost Value = { ℕ };
+impl<W: Write> Model for RealOut<W> {
+    ghost use Rattle.vata_outside.specs.Real.{RealWriter};
 
-    ghost view = { λ s. s.faults };
+    ghost Value = { RealWriter };
+
+    ghost view = { λ s. record { faults = s.faults; contents = W.contents s.out } };
 }
 
-impl<W> Model for RealErr<W> {
-    ghost Value = { ℕ };
+impl<W: Write> Model for RealErr<W> {
+    ghost use Rattle.vata_outside.specs.Real.{RealWriter};
 
-    ghost view = { λ s. s.faults };
+    ghost Value = { RealWriter };
+
+    ghost view = { λ s. record { faults = s.faults; contents = W.contents s.err } };
 }
 
 impl<W: Write> RealOut<W> {
     /// No fault so far.
-    pub fn new(to: W) -> RealOut<W>
-        ensures { result ≡ 0 }
+    pub fn new(out: W) -> RealOut<W>
+        ensures { result ≡ record { faults = 0; contents = W.contents out } }
     {
-        RealOut { to, faults: 0 }
+        RealOut { out, faults: 0 }
     }
 }
 
 impl<W: Write> RealErr<W> {
     /// No fault so far.
-    pub fn new(to: W) -> RealErr<W>
-        ensures { result ≡ 0 }
+    pub fn new(err: W) -> RealErr<W>
+        ensures { result ≡ record { faults = 0; contents = W.contents err } }
     {
-        RealErr { to, faults: 0 }
+        RealErr { err, faults: 0 }
     }
 }
 
 impl<W: Write> Sink for RealOut<W> {
     ghost written = { λ _. None };
 
-    ghost faults = { λ s. s };
+    ghost faults = { λ s. s.faults };
 
     fn write(&mut self, piece: &[u8]) -> Result<usize, Failed>
         ensures some { IfOk result (λ n. 0 < n) }
         ensures bound { IfOk result (λ n. n ≤ length piece.now) }
-        ensures cause { HasCause self.old self.new result }
-        ensures count { self.new ≡ count_after result self.old }
+        ensures cause { HasCause self.old.faults self.new.faults result }
+        ensures count { self.new.faults ≡ count_after result self.old.faults }
+        // As many bytes as are told reached the writer, where it tells what it holds, and on a fault none.
+        ensures reached { WriteAppends self.old.contents self.new.contents result piece.now }
     {
-        write_counted(&mut self.to, &mut self.faults, piece)
+        write_counted(&mut self.out, &mut self.faults, piece)
     }
 }
 
 impl<W: Write> Sink for RealErr<W> {
     ghost written = { λ _. None };
 
-    ghost faults = { λ s. s };
+    ghost faults = { λ s. s.faults };
 
     fn write(&mut self, piece: &[u8]) -> Result<usize, Failed>
         ensures some { IfOk result (λ n. 0 < n) }
         ensures bound { IfOk result (λ n. n ≤ length piece.now) }
-        ensures cause { HasCause self.old self.new result }
-        ensures count { self.new ≡ count_after result self.old }
+        ensures cause { HasCause self.old.faults self.new.faults result }
+        ensures count { self.new.faults ≡ count_after result self.old.faults }
+        // As many bytes as are told reached the writer, where it tells what it holds, and on a fault none.
+        ensures reached { WriteAppends self.old.contents self.new.contents result piece.now }
     {
-        write_counted(&mut self.to, &mut self.faults, piece)
+        write_counted(&mut self.err, &mut self.faults, piece)
+    }
+}
+
+/// One read. An error counts as a fault.
+fn read_counted<R: Read>(from: &mut R, faults: &mut u64, buf: &mut [u8]) -> Result<usize, Failed>
+    ensures bound { ReadsAtMost result buf.new }
+    ensures bytes { ReadConsumes (R.remaining from.old) (R.remaining from.new) result buf.new }
+    ensures cause { HasCause faults.old faults.new result }
+    ensures count { faults.new ≡ count_after result faults.old }
+{
+    match from.read(buf) {
+        Ok(count) => Ok(count),
+        Err(_) => Err(fault(faults)),
     }
 }
 
@@ -175,6 +200,7 @@ impl<W: Write> Sink for RealErr<W> {
 fn write_counted<W: Write>(to: &mut W, faults: &mut u64, piece: &[u8]) -> Result<usize, Failed>
     ensures some { IfOk result (λ n. 0 < n) }
     ensures bound { IfOk result (λ n. n ≤ length piece.now) }
+    ensures bytes { WriteAppends (W.contents to.old) (W.contents to.new) result piece.now }
     ensures cause { HasCause faults.old faults.new result }
     ensures count { faults.new ≡ count_after result faults.old }
 {

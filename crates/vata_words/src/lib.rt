@@ -16,8 +16,6 @@ mod number;
 mod reading;
 mod request;
 mod settings;
-#[cfg(test)]
-mod tests;
 
 pub use reading::{check_request_of, request_of};
 pub use request::{CheckRequest, Dir, Encoding, Request, WordFault};

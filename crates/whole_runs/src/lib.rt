@@ -10,10 +10,16 @@ mod checks;
 #[cfg(test)]
 mod inclusions;
 #[cfg(test)]
+mod kinds;
+#[cfg(test)]
 mod limits;
 #[cfg(test)]
 mod loads;
 #[cfg(test)]
+mod outside;
+#[cfg(test)]
 mod running;
 #[cfg(test)]
 mod texts;
+#[cfg(test)]
+mod words;

@@ -1,5 +1,5 @@
 -- The automaton with one rule, from its one leaf to its one state, is well formed.
-use Rattle.std.proofs.Common.{◌≢◌, ◌<◌, ℕ, List, [], ◌∷◌, refl, arith}
+use Rattle.std.proofs.Common.{◌≢◌, ◌<◌, inl, ℕ, List, [], ◌∷◌, refl, arith}
 use Rattle.std.specs.Prelude.{All, AllPairs}
 use Rattle.std.proofs.lemmas.List.Elements.{All-cons, All-nil}
 use Rattle.tree_definitions.specs.Tree.{Symbol}
@@ -16,6 +16,7 @@ alone x i j d below within same = absurd (omega arith)
 -- the automaton with this name, this state and this leaf
 abbrev pub one : List ℕ → List ℕ → List ℕ → Automaton
 one title state leaf = record {
+  bits = 0;
   name = title;
   symbols = record { name = leaf; rank = 0 } ∷ [];
   states = state ∷ [];
@@ -35,9 +36,11 @@ one_rule title state leaf t s l =
       rules = alone line;
       final_states = single (λ q. q < 1) 0 (omega arith);
       fitting = single (FitsRule (one title state leaf)) line fits;
+      form = inl refl;
     } in
     record {
       automaton = automaton;
+      narrow = refl;
       name = t;
       symbol_names = single (λ b. IsName b.name) a l;
       state_names = single IsName state s;

@@ -7,12 +7,12 @@ use Rattle.std.proofs.lemmas.Option.{get_or_from_slice_get, slice_get_within}
 use Rattle.std.proofs.lemmas.List.{length_push}
 use Rattle.std.proofs.lemmas.List.Elements.{All-head, All-tail, All-push}
 use Rattle.tree_definitions.specs.Tree.{Symbol, Tree, Node, Trees, NoTrees, More}
-use Rattle.tree_definitions.specs.Automaton.{Automaton, Rule, HasRule, IsRule, IsLabel}
+use Rattle.tree_definitions.specs.Automaton.{Automaton, Rule, HasRule, IsLabel, IsNarrow}
 use Rattle.tree_definitions.specs.Language.{Reaches, ReachEachBy}
 use Rattle.tree_definitions.specs.Relation.{Row, Matrix, Has, IsAt}
 use Rattle.tree_definitions.specs.Witness.{NodeRow, AreNodes, IsTreeOf, AreTreesOf}
 use Rattle.tree_definitions.proofs.Members.{at_unique, at_within}
-use Rattle.tree_definitions.proofs.Listing.{label_at, rule_of_line}
+use Rattle.tree_definitions.proofs.Listing.{label_at, at_label, rule_of_line, rule_parts}
 use Rattle.witness_trees.proofs.Texts.{same_node}
 use Rattle.witness_trees.proofs.Rows.{zip_at}
 use Rattle.witness_trees.specs.Nodes.{NodeList}
@@ -56,12 +56,12 @@ module _ (A : Automaton) (nodes : NodeList) (reached : Matrix) (states : (j : �
       let row = at_within reached k (All-head (λ j. j < length reached) k ks a) in
       ((row.0, row.1, (states k row.0 row.1 s).1 (t, trees.0, reach.0)), among_from ks ss ts (All-tail (λ j. j < length reached) k ks a) trees.1 reach.1)
 
-  module _ (apart : AllPairs ◌≢◌ A.symbols) (k : ℕ) (node : NodeRow) (a : Symbol) (at : IsAt nodes.rows k node) (stands : IsAt nodes.symbols node.symbol a) (earlier : All (λ j. j < length reached) node.kids) where
+  module _ (narrow : IsNarrow A) (apart : AllPairs ◌≢◌ A.symbols) (k : ℕ) (node : NodeRow) (a : Symbol) (at : IsAt nodes.rows k node) (stands : IsAt nodes.symbols node.symbol a) (earlier : All (λ j. j < length reached) node.kids) where
     step_there : (label : Option ℕ) (q : ℕ) → IsPlaceOf A.symbols a label → Steps A.rules reached label node.kids q → NodeReaches A nodes k q
     step_there None q place h = absurd h
     step_there (Some l) q place h =
         let rule : Rule = h.1 in
-        let labelled : IsLabel A rule.symbol a = label_at A rule.symbol a (subst (λ i. IsAt A.symbols i a) (sym h.3.0) place) in
+        let labelled : IsLabel A rule.symbol a = label_at A rule.symbol a narrow (subst (λ i. IsAt A.symbols i a) (sym h.3.0) place) in
         let below = trees_from node.kids rule.kids h.3.1 in
         (Node a below.0, (node, at, stands, below.1), subst (Reaches A (Node a below.0)) h.4 (rule.kids, (h.0, rule_of_line A h.0 rule a h.2 labelled), below.2))
 
@@ -70,7 +70,6 @@ module _ (A : Automaton) (nodes : NodeList) (reached : Matrix) (states : (j : �
     label_back (Some i) l place is = ap Some (same_place A.symbols i l a apart place is)
 
     step_back : (label : Option ℕ) (q : ℕ) → IsPlaceOf A.symbols a label → NodeReaches A nodes k q → Steps A.rules reached label node.kids q
-    unfolding IsRule IsLabel
     step_back label q place h = go h.0 h.1 h.2
       where
         go : (t : Tree) → IsTreeOf nodes.symbols nodes.rows k t → Reaches A t q → Steps A.rules reached label node.kids q
@@ -80,10 +79,11 @@ module _ (A : Automaton) (nodes : NodeList) (reached : Matrix) (states : (j : �
             let trees = subst (λ (x : NodeRow). AreTreesOf nodes.symbols nodes.rows x.kids ts) same tree.3 in
             let among = among_from node.kids reach.0 ts earlier trees reach.2 in
             let r = reach.1.0 in
-            let l = reach.1.1.0 in
+            let parts = rule_parts A r b reach.0 q reach.1.1 in
+            let l = parts.0 in
             let rule : Rule = record { symbol = l; kids = reach.0; parent = q } in
-            let labelled : IsAt A.symbols l a = subst (IsAt A.symbols l) symbol reach.1.1.1 in
-            subst (λ o. Steps A.rules reached o node.kids q) (sym (label_back label l place labelled)) (r, rule, reach.1.1.2, (refl, among), refl)
+            let labelled : IsAt A.symbols l a = subst (IsAt A.symbols l) symbol (at_label A l b narrow parts.1) in
+            subst (λ o. Steps A.rules reached o node.kids q) (sym (label_back label l place labelled)) (r, rule, parts.2, (refl, among), refl)
 
     pub step : (label : Option ℕ) (q : ℕ) → IsPlaceOf A.symbols a label → Steps A.rules reached label node.kids q ↔ NodeReaches A nodes k q
     step label q place = (step_there label q place, step_back label q place)
@@ -121,16 +121,16 @@ symbol_within nodes k symbol fits h =
 
 -- the row of node k, made of the rows before it
 pub reached_step : (A : Automaton) (nodes : NodeList) (k : ℕ) (reached new : List Row) (row : Row) (symbol : ℕ) (kids : List ℕ) (labels : List (Option ℕ)) (label : Option ℕ)
-    → AllPairs ◌≢◌ A.symbols → AreNodes nodes.symbols nodes.rows → AreReachedTo A nodes k reached
+    → IsNarrow A → AllPairs ◌≢◌ A.symbols → AreNodes nodes.symbols nodes.rows → AreReachedTo A nodes k reached
     → (node : NodeRow) × IsAt nodes.rows k node × (symbol ≡ node.symbol) → (node : NodeRow) × IsAt nodes.rows k node × (kids ≡ node.kids)
     → AllZip (IsPlaceOf A.symbols) nodes.symbols labels → label ≡ get_or labels symbol label
     → length row ≡ length A.states → ((q : ℕ) → Has row q ↔ Steps A.rules reached label kids q) → new ≡ reached ++ row ∷ []
     → AreReachedTo A nodes (k + 1) new
-reached_step A nodes k reached new row symbol kids labels label apart fits h s c zipped read size exact grown =
+reached_step A nodes k reached new row symbol kids labels label narrow apart fits h s c zipped read size exact grown =
     let node : NodeRow = record { symbol = symbol; kids = kids } in
     let at : IsAt nodes.rows k node = same_node nodes.rows k symbol kids s c in
     let f = fits k node at in
     let place : IsPlaceOf A.symbols f.symbol.0 label = subst (IsPlaceOf A.symbols f.symbol.0) (sym read) (zip_at (IsPlaceOf A.symbols) nodes.symbols labels symbol f.symbol.0 label zipped f.symbol.1) in
     let earlier : All (λ j. j < length reached) kids = subst (λ n. All (λ j. j < n) kids) (sym h.each_node) f.earlier in
-    let one : (q : ℕ) → Steps A.rules reached label kids q ↔ NodeReaches A nodes k q = λ q. step A nodes reached h.states apart k node f.symbol.0 at f.symbol.1 earlier label q place in
+    let one : (q : ℕ) → Steps A.rules reached label kids q ↔ NodeReaches A nodes k q = λ q. step A nodes reached h.states narrow apart k node f.symbol.0 at f.symbol.1 earlier label q place in
     reached_more A nodes k reached new row h grown size (λ q. (λ x. (one q).0 ((exact q).0 x), λ x. (exact q).1 ((one q).1 x)))

@@ -5,8 +5,6 @@ mod index;
 mod numbered;
 mod slots;
 mod table;
-#[cfg(test)]
-mod tests;
 mod words;
 
 pub use table::WordTable;

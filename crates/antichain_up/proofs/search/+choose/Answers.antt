@@ -1,14 +1,13 @@
-use Rattle.std.proofs.Common.{rules, slice_set, [], ◌∷◌, ◌++◌, true, false, ◌≡◌, ◌<◌, ◌≤◌, ◌+◌, ℕ, List, length, map, take, refl, sym, ap, ◌∙◌, subst, arith}
+use Rattle.std.proofs.Common.{slice_set, [], ◌∷◌, ◌++◌, ◌≡◌, ◌<◌, ◌+◌, length, map, take, refl, sym, ap, ◌∙◌, subst, arith}
 use Rattle.std.specs.Prelude.{slice_index_or, Contains}
 use Rattle.std.proofs.lemmas.List.{length-take-le, length-set}
 use Rattle.std.proofs.Math.Seq.{take-length}
 use Rattle.tree_definitions.specs.Relation.{IsAt}
 use Rattle.tree_definitions.proofs.Members.{at_unique, at_within, contains_at}
-use Rattle.tree_definitions.proofs.Counting.{length-map}
 use Rattle.upward_search.proofs.Zips.{at_length}
 use Rattle.antichain_up.specs.Entries.{EntryRow}
 use Rattle.antichain_up.specs.SearchState.{WhenGoing, StepsFrom, Handles, IsGoing, IsAfter, Moves}
-use Rattle.antichain_up.proofs.Stepping.{going_at, at_index, at_map, moves_on, after_at}
+use Rattle.antichain_up.proofs.Stepping.{going_at, at_index, moves_on, after_at}
 use Rattle.antichain_up.proofs.Choosing.{has_more, last_later, given_at, lists_later, handles_at, chosen_more, picked_more, prefix_back, more_candidates, unwanted, list_here, ok_more, moves_self, step_handles, all_candidates, candidate}
 use Rattle.antichain_up.specs.declared.search.Progress.TheVariants.{Going}
 use Rattle.antichain_up.proofs.search.+choose.Goals as goal

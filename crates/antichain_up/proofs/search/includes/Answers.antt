@@ -1,14 +1,14 @@
-use Rattle.std.proofs.Common.{◌≡◌, ◌≢◌, length, sym, ap, ◌∙◌, subst, arith}
-use Rattle.std.specs.Prelude.{AllPairs}
+use Rattle.std.proofs.Common.{◌≡◌, sym, subst}
+use Rattle.std.specs.Prelude.{IfOk}
+use Rattle.tree_definitions.specs.Relation.{Holds, Matrix}
 use Rattle.tree_definitions.specs.Automaton.{Automaton}
-use Rattle.tree_definitions.specs.Joint.{joint_symbols}
-use Rattle.tree_definitions.specs.UpTrail.{UpTrail}
-use Rattle.tree_definitions.specs.Relation.{Holds}
-use Rattle.certificate_kinds.specs.Certificates.{FitsUpTrail}
-use Rattle.antichain_up.specs.Orders.{TwoOrders}
-use Rattle.antichain_up.specs.SearchState.{IsGoing, IsRejected, IsFull, IsAfter, entries_of}
-use Rattle.antichain_up.proofs.Joined.{joint_distinct}
-use Rattle.antichain_up.proofs.Ending.{empty_at, pairs_apart, up_answer, up_fits, entry_nodes, tree_answer, tree_fits, trail_answer, trail_fits, never_full, are_orders, up_left, up_right, told_up, told_trail, relation_fits}
+use Rattle.upward_search.specs.Search.{IsClosed}
+use Rattle.certificate_kinds.specs.Answers.{IsUpAnswer}
+use Rattle.antichain_up.specs.Entries.{Kept}
+use Rattle.antichain_up.specs.Orders.{IsUpOrder}
+use Rattle.antichain_up.specs.SearchState.{entries_of}
+use Rattle.antichain_up.proofs.Ending.{empty_at, are_orders}
+use Rattle.antichain_up.proofs.Stepping.{after_at}
 use Rattle.antichain_up.proofs.search.includes.Goals as goal
 
 pub run-requires-clause-given : goal.run-requires-clause-given
@@ -23,94 +23,32 @@ run-requires-clause-going g c =
     empty_at (g.J.Joint.left c.args.j.now) (g.J.Joint.right c.args.j.now) c.in_ok-orders.orders c.args.budget c.sizes-lefts.result.0 c.sizes-lefts.result.1 c.new.result c.in_ok-new.field-0
     c.sizes-lefts.ensures.left c.sizes-lefts.ensures.right c.new.ensures c.in_ok-new.ensures
 
-pub kept_pairs-requires-clause-apart : goal.kept_pairs-requires-clause-apart
-kept_pairs-requires-clause-apart g c =
-    let A = g.J.Joint.left c.args.j.now in
-    let B = g.J.Joint.right c.args.j.now in
+-- the relations and the automata are those that were passed
+up_order : (A A' : Automaton) (R R' : Matrix) → A' ≡ A → R' ≡ R → IsUpOrder A R → IsUpOrder A' R'
+up_order A A' R R' a r h = subst (λ x. IsUpOrder x R') (sym a) (subst (λ y. IsUpOrder A y) (sym r) h)
+
+pub told-requires-clause-left : goal.told-requires-clause-left
+told-requires-clause-left g c = up_order (g.J.Joint.left c.args.j.now) (g.J.Joint.left c.run.new.j) c.args.left.now c.in_ok-orders.orders.left c.in_ok-progress.ensures.left c.in_ok-orders.ensures.left c.requires.left
+
+pub told-requires-clause-right : goal.told-requires-clause-right
+told-requires-clause-right g c = up_order (g.J.Joint.right c.args.j.now) (g.J.Joint.right c.run.new.j) c.args.right.now c.in_ok-orders.orders.right c.in_ok-progress.ensures.right c.in_ok-orders.ensures.right c.requires.right
+
+pub told-requires-clause-after : goal.told-requires-clause-after
+told-requires-clause-after g c =
+    after_at (g.J.Joint.left c.run.new.j) (g.J.Joint.right c.run.new.j) (g.J.Joint.left c.args.j.now) (g.J.Joint.right c.args.j.now) c.in_ok-orders.orders c.args.budget c.in_ok-progress.progress c.run.new.search
+    (sym c.in_ok-progress.ensures.left) (sym c.in_ok-progress.ensures.right) c.in_ok-progress.ensures.after
+
+pub told-requires-clause-closed : goal.told-requires-clause-closed
+told-requires-clause-closed g c e =
     let o = c.in_ok-orders.orders in
     let s = c.run.new.search in
-    let same_l = c.in_ok-orders.ensures.left in
-    let same_r = c.in_ok-orders.ensures.right in
-    let h : IsGoing A B o c.args.budget s = subst (λ p. IsAfter A B o c.args.budget p s) c.in-Going.is c.in_ok-run.ensures.after in
-    pairs_apart A B o c.args.budget s (are_orders A B o c.args.left.now c.args.right.now same_l same_r c.requires.left c.requires.right) h
+    subst (λ x. IsClosed x (g.J.Joint.right c.run.new.j) (Holds o.left) (Holds o.right) (entries_of s) (Kept s.entries) (Kept s.entries)) (sym c.in_ok-progress.ensures.left)
+    (subst (λ y. IsClosed (g.J.Joint.left c.args.j.now) y (Holds o.left) (Holds o.right) (entries_of s) (Kept s.entries) (Kept s.entries)) (sym c.in_ok-progress.ensures.right) (c.in_ok-progress.ensures.closed e))
 
-pub tree-requires-clause-distinct : goal.tree-requires-clause-distinct
-tree-requires-clause-distinct g c =
-    let A = g.J.Joint.left c.args.j.now in
-    let B = g.J.Joint.right c.args.j.now in
-    let joint : c.symbols.result.now ≡ joint_symbols A.symbols B.symbols =
-    c.symbols.ensures.value ∙ ap (λ (x : Automaton). joint_symbols x.symbols (g.J.Joint.right c.run.new.j).symbols) c.in_ok-run.ensures.left ∙ ap (λ (y : Automaton). joint_symbols A.symbols y.symbols) c.in_ok-run.ensures.right in
-    subst (λ xs. AllPairs ◌≢◌ xs) (sym joint) (joint_distinct A.symbols B.symbols c.sizes-lefts.ensures.paired.left.automaton.symbols c.sizes-lefts.ensures.paired.right.automaton.symbols)
-
-pub tree-requires-clause-nodes : goal.tree-requires-clause-nodes
-tree-requires-clause-nodes g c =
-    let A = g.J.Joint.left c.args.j.now in
-    let B = g.J.Joint.right c.args.j.now in
+pub returns-clause-answer : goal.returns-clause-answer
+returns-clause-answer g c =
     let o = c.in_ok-orders.orders in
-    let s = c.run.new.search in
-    let same_l = c.in_ok-orders.ensures.left in
-    let same_r = c.in_ok-orders.ensures.right in
-    let h : IsRejected A B o s = subst (λ p. IsAfter A B o c.args.budget p s) c.in-Rejected.is c.in_ok-run.ensures.after in
-    let joint : c.symbols.result.now ≡ joint_symbols A.symbols B.symbols =
-    c.symbols.ensures.value ∙ ap (λ (x : Automaton). joint_symbols x.symbols (g.J.Joint.right c.run.new.j).symbols) c.in_ok-run.ensures.left ∙ ap (λ (y : Automaton). joint_symbols A.symbols y.symbols) c.in_ok-run.ensures.right in
-    entry_nodes A B o c.args.budget s c.sizes-lefts.ensures.paired.left.automaton h c.symbols.result.now joint
-
-pub returns-in_ok-pairs-in-Going-clause-answer : goal.returns-in_ok-pairs-in-Going-clause-answer
-returns-in_ok-pairs-in-Going-clause-answer g c =
-    let A = g.J.Joint.left c.args.j.now in
-    let B = g.J.Joint.right c.args.j.now in
-    let o = c.in_ok-orders.orders in
-    let s = c.run.new.search in
-    let same_l = c.in_ok-orders.ensures.left in
-    let same_r = c.in_ok-orders.ensures.right in
-    let h : IsGoing A B o c.args.budget s = subst (λ p. IsAfter A B o c.args.budget p s) c.in-Going.is c.in_ok-run.ensures.after in
-    let left = relation_fits (length A.states) c.size-lefts.result o.left c.args.left.now same_l c.requires.left.square c.size-lefts.ensures.value c.size-lefts.ensures.limit in
-    let right = relation_fits (length B.states) c.size-rights.result o.right c.args.right.now same_r c.requires.right.square c.size-rights.ensures.value c.size-rights.ensures.limit in
-    let X = c.in_ok-pairs-in-Going.pairs.items in
-    let kept = c.in_ok-pairs-in-Going.ensures.kept in
-    told_up A B o c.args.left.now c.args.right.now same_l same_r c.requires.left c.requires.right c.orders.inside.left c.orders.inside.right (ap (λ (x : TwoOrders). x.left) c.orders.view_is) (ap (λ (x : TwoOrders). x.right) c.orders.view_is) X
-    (up_fits A B o c.args.budget s h c.requires.few left right X kept c.in_ok-pairs-in-Going.ensures.rising c.in_ok-pairs-in-Going.ensures.few)
-    (up_answer A B o c.args.budget s h (up_left A B o c.args.left.now c.args.right.now same_l same_r c.requires.left c.requires.right) (up_right A B o c.args.left.now c.args.right.now same_l same_r c.requires.left c.requires.right) (c.in_ok-run.ensures.closed c.in-Going.is) X kept)
-
-pub returns-in_ok-nodes-in-Rejected-clause-answer : goal.returns-in_ok-nodes-in-Rejected-clause-answer
-returns-in_ok-nodes-in-Rejected-clause-answer g c =
-    let A = g.J.Joint.left c.args.j.now in
-    let B = g.J.Joint.right c.args.j.now in
-    let o = c.in_ok-orders.orders in
-    let s = c.run.new.search in
-    let same_l = c.in_ok-orders.ensures.left in
-    let same_r = c.in_ok-orders.ensures.right in
-    let h : IsRejected A B o s = subst (λ p. IsAfter A B o c.args.budget p s) c.in-Rejected.is c.in_ok-run.ensures.after in
-    let joint : c.symbols.result.now ≡ joint_symbols A.symbols B.symbols =
-    c.symbols.ensures.value ∙ ap (λ (x : Automaton). joint_symbols x.symbols (g.J.Joint.right c.run.new.j).symbols) c.in_ok-run.ensures.left ∙ ap (λ (y : Automaton). joint_symbols A.symbols y.symbols) c.in_ok-run.ensures.right in
-    let n = c.in_ok-nodes-in-Rejected.nodes in
-    let cert = tree_answer A B o c.args.budget s h c.symbols.result.now joint n c.in_ok-nodes-in-Rejected.ensures.tree in
-    (tree_fits A B o c.args.budget s n cert c.in_ok-nodes-in-Rejected.ensures.list (c.in_ok-nodes-in-Rejected.ensures.symbols ∙ joint), cert)
-
-pub returns-in_ok-entries-in-Full-clause-answer : goal.returns-in_ok-entries-in-Full-clause-answer
-returns-in_ok-entries-in-Full-clause-answer g c =
-    let A = g.J.Joint.left c.args.j.now in
-    let B = g.J.Joint.right c.args.j.now in
-    let o = c.in_ok-orders.orders in
-    let s = c.run.new.search in
-    let same_l = c.in_ok-orders.ensures.left in
-    let same_r = c.in_ok-orders.ensures.right in
-    let h : IsFull A B o c.args.budget s = subst (λ p. IsAfter A B o c.args.budget p s) c.in-Full.is c.in_ok-run.ensures.after in
-    let left = relation_fits (length A.states) c.size-lefts.result o.left c.args.left.now same_l c.requires.left.square c.size-lefts.ensures.value c.size-lefts.ensures.limit in
-    let right = relation_fits (length B.states) c.size-rights.result o.right c.args.right.now same_r c.requires.right.square c.size-rights.ensures.value c.size-rights.ensures.limit in
-    let E = c.in_ok-entries-in-Full.entries.items in
-    let same : E ≡ entries_of s = c.in_ok-entries-in-Full.ensures in
-    told_trail A B o c.args.left.now c.args.right.now same_l same_r c.requires.left c.requires.right c.orders.inside.left c.orders.inside.right (ap (λ (x : TwoOrders). x.left) c.orders.view_is) (ap (λ (x : TwoOrders). x.right) c.orders.view_is) c.args.budget E
-    (subst (λ xs. FitsUpTrail A B o.left o.right c.args.budget xs) (sym same) (trail_fits A B o c.args.budget s c.sizes-lefts.ensures.paired.left.automaton h c.requires.some c.requires.few left right))
-    (subst (λ xs. UpTrail A B (Holds o.left) (Holds o.right) c.args.budget xs) (sym same) (trail_answer A B o c.args.budget s h (up_left A B o c.args.left.now c.args.right.now same_l same_r c.requires.left c.requires.right) (up_right A B o c.args.left.now c.args.right.now same_l same_r c.requires.left c.requires.right)))
-
-pub returns-in_ok-entries-in-Full-clause-decided : goal.returns-in_ok-entries-in-Full-clause-decided
-returns-in_ok-entries-in-Full-clause-decided g c large =
-    let A = g.J.Joint.left c.args.j.now in
-    let B = g.J.Joint.right c.args.j.now in
-    let o = c.in_ok-orders.orders in
-    let s = c.run.new.search in
-    let same_l = c.in_ok-orders.ensures.left in
-    let same_r = c.in_ok-orders.ensures.right in
-    let h : IsFull A B o c.args.budget s = subst (λ p. IsAfter A B o c.args.budget p s) c.in-Full.is c.in_ok-run.ensures.after in
-    never_full A B o c.args.budget s (are_orders A B o c.args.left.now c.args.right.now same_l same_r c.requires.left c.requires.right) h (up_left A B o c.args.left.now c.args.right.now same_l same_r c.requires.left c.requires.right) (up_right A B o c.args.left.now c.args.right.now same_l same_r c.requires.left c.requires.right) large
+    subst (λ x. IfOk c.told.result (IsUpAnswer x (g.J.Joint.right c.args.j.now) c.args.left.now c.args.right.now c.args.budget)) c.in_ok-progress.ensures.left
+    (subst (λ y. IfOk c.told.result (IsUpAnswer (g.J.Joint.left c.run.new.j) y c.args.left.now c.args.right.now c.args.budget)) c.in_ok-progress.ensures.right
+    (subst (λ l. IfOk c.told.result (IsUpAnswer (g.J.Joint.left c.run.new.j) (g.J.Joint.right c.run.new.j) l c.args.right.now c.args.budget)) c.in_ok-orders.ensures.left
+    (subst (λ r. IfOk c.told.result (IsUpAnswer (g.J.Joint.left c.run.new.j) (g.J.Joint.right c.run.new.j) o.left r c.args.budget)) c.in_ok-orders.ensures.right c.told.ensures.answer)))

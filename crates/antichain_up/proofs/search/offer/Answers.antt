@@ -1,4 +1,4 @@
-use Rattle.std.proofs.Common.{◌≡◌, ◌<◌, false, true, refl, arith}
+use Rattle.std.proofs.Common.{◌≡◌, false, true, refl, arith}
 use Rattle.tree_definitions.specs.Relation.{Has, Holds}
 use Rattle.ta_model.specs.Macrostates.{row_at}
 use Rattle.upward_search.specs.Search.{IsKeptOver}

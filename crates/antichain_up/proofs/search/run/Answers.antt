@@ -1,4 +1,4 @@
-use Rattle.std.proofs.Common.{◌≡◌, ◌<◌, ◌≤◌, ◌+◌, false, true, length, refl, sym, ap, ◌∙◌, subst, arith}
+use Rattle.std.proofs.Common.{◌≡◌, ◌<◌, ◌+◌, false, true, length, ◌∙◌, subst, arith}
 use Rattle.antichain_up.specs.Entries.{Kept}
 use Rattle.antichain_up.specs.declared.search.Progress.TheVariants.{Going}
 use Rattle.antichain_up.specs.SearchState.{IsGoing, IsAfter, HandlesAll}

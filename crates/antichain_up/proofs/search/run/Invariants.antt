@@ -1,4 +1,4 @@
-use Rattle.std.proofs.Common.{◌≡◌, ◌-◌, ℕ}
+use Rattle.std.proofs.Common.{◌≡◌, ◌-◌}
 use Rattle.antichain_up.specs.SearchState.{IsGoing}
 use Rattle.antichain_up.proofs.Running.{Closed}
 use Rattle.antichain_up.proofs.search.run.Given as goal

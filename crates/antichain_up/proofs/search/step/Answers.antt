@@ -1,8 +1,8 @@
-use Rattle.std.proofs.Common.{◌≡◌, ◌<◌, ◌≤◌, ℕ, length, map, refl, sym, ap, ◌∙◌, subst, arith}
+use Rattle.std.proofs.Common.{length, map, sym, subst, arith}
 use Rattle.std.specs.Prelude.{slice_index_or, Contains}
-use Rattle.tree_definitions.specs.Relation.{Has, Holds, IsAt}
+use Rattle.tree_definitions.specs.Relation.{IsAt}
 use Rattle.tree_definitions.proofs.Members.{contains_at, place_of}
-use Rattle.ta_model.specs.Macrostates.{Macrostates, row_at}
+use Rattle.ta_model.specs.Macrostates.{row_at}
 use Rattle.ta_model.specs.UpGroups.{AreUpGroups}
 use Rattle.antichain_up.specs.SearchState.{IsGoing, IsAfter, entries_of}
 use Rattle.antichain_up.proofs.Stepping.{new_entry, picked_pairs, picked_sets, picked_kids, group_step, groups_stepped, regrouped, regroup_moves, moves_on, at_index, going_at, after_at, step_at, all_parents, more_groups, more_parents, offered, within}
@@ -42,7 +42,7 @@ pub offer-requires-clause-stored : goal.offer-requires-clause-stored
 offer-requires-clause-stored g c =
     let at = at_index c.deref-group-items.result.now c.groups.group-index c.group-item.result c.groups-test.true in
     let m = subst (λ x. Contains c.deref-group-items.result.now x) (sym c.group-item.is) (contains_at c.deref-group-items.result.now c.groups.group-index (slice_index_or c.deref-group-items.result.now c.groups.group-index c.group-item.result) at) in
-    (c.parents.invariant.groups.sound c.group-item.result m).3.stored
+    (c.parents.invariant.groups.sound c.group-item.result m).4.stored
 
 pub offer-requires-clause-is_step : goal.offer-requires-clause-is_step
 offer-requires-clause-is_step g c =
@@ -58,7 +58,7 @@ offer-requires-clause-is_step g c =
     let picked = picked_pairs s kids c.args.chosen.now c.args.sets.now c.requires.many_chosen c.requires.many_sets c.requires.picked in
     step_at A B (g.J.Joint.left c.up_groups.new.self) (g.J.Joint.right c.up_groups.new.self) (entries_of c.parents.search) (length c.parents.search.entries.rows)
     (new_entry c.parents.search.store p c.group-item.result.set c.group-item.result.symbol c.args.chosen.now) c.up_groups.ensures.left c.up_groups.ensures.right
-    (group_step A B c.args.orders.now s c.parents.search kids c.args.chosen.now c.args.sets.now picked c.parents.invariant.moves is.0 c.group-item.result p is.3 inside)
+    (group_step A B c.args.orders.now s c.parents.search kids c.args.chosen.now c.args.sets.now picked c.parents.invariant.moves is.0 c.group-item.result p is.2 is.4 inside)
 
 pub returns-in_default : goal.returns-in_default
 returns-in_default g c = record {

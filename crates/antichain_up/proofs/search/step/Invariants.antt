@@ -1,4 +1,4 @@
-use Rattle.std.proofs.Common.{◌≡◌, ◌<◌, ℕ, map}
+use Rattle.std.proofs.Common.{◌<◌, ℕ, map}
 use Rattle.std.specs.Prelude.{Contains}
 use Rattle.tree_definitions.specs.Relation.{Has, Holds, IsAt}
 use Rattle.ta_model.specs.declared.joint.UpGroup.{UpGroup}

@@ -4,7 +4,7 @@ use Rattle.std.proofs.lemmas.Result.{IfOk-weaker}
 use Rattle.tree_definitions.specs.Automaton.{Rule}
 use Rattle.tree_definitions.specs.Relation.{IsAt}
 use Rattle.bool_ops.specs.Closing.{both, AreAlike, AreHeld, AddsBelow, Grows, Settled}
-use Rattle.bool_ops.proofs.Closed.{taken_grows, taken_settled}
+use Rattle.bool_ops.proofs.Closed.{grows_none, taken_grows, taken_settled}
 use Rattle.bool_ops.proofs.close.examine.Goals as goal
 
 pub returns-clause-grows : goal.returns-clause-grows
@@ -50,3 +50,9 @@ returns-clause-settled c =
     (subst (λ (o : Rule). AddsBelow p 1000000 (both o.parent c.right.inside.parent) p2) c.left.view_is c.in_ok-add_below.ensures) in
     IfOk-weaker c.add_below-2.result _ (λ _. Settled ours theirs p p2 c.add_below-2.new.list c.args.r c.args.s)
     (λ _ rules. taken_settled ours theirs p f p2 c.add_below-2.new.list c.args.r c.args.s left right rat sat alike held states rules) c.add_below-2.ensures
+
+pub returns-then-not-are_alike-clause-grows : goal.returns-then-not-are_alike-clause-grows
+returns-then-not-are_alike-clause-grows c = grows_none c.args.ours.now c.args.theirs.now c.args.pairs.now c.args.found.now
+
+pub returns-then-not-are_held-clause-grows : goal.returns-then-not-are_held-clause-grows
+returns-then-not-are_held-clause-grows c = grows_none c.args.ours.now c.args.theirs.now c.args.pairs.now c.args.found.now

@@ -3,7 +3,7 @@ use Rattle.std.specs.Prelude.{All, AllPairs, Contains}
 use Rattle.std.specs.List.{AllZip}
 use Rattle.std.proofs.lemmas.List.{length-map}
 use Rattle.tree_definitions.specs.Tree.{Symbol}
-use Rattle.tree_definitions.specs.Automaton.{Automaton, Rule}
+use Rattle.tree_definitions.specs.Automaton.{Automaton, Rule, IsAutomaton}
 use Rattle.tree_definitions.specs.Canonical.{canon, in_order, rule_cmp}
 use Rattle.tree_definitions.specs.Name.{IsName}
 use Rattle.tree_definitions.specs.Product.{pair_name}
@@ -15,6 +15,7 @@ use Rattle.bool_ops.specs.Joined.{FitTogether, IsPairOf}
 use Rattle.bool_ops.proofs.Assembled.{multiplies}
 use Rattle.bool_ops.proofs.Counted.{no_more}
 use Rattle.bool_ops.proofs.Finished.{left_states, right_states, small_states, all_fit, rising_apart}
+use Rattle.bool_ops.proofs.Names.{title_is_name}
 use Rattle.bool_ops.proofs.WellFormed.{well_formed, joint_names, zip_length}
 use Rattle.bool_ops.proofs.intersect.assemble.Goals as goal
 
@@ -36,13 +37,16 @@ finals-requires-3-clause-right c =
 
 pub rules_of-requires-clause-fits : goal.rules_of-requires-clause-fits
 rules_of-requires-clause-fits c =
-    subst (λ rs. All (FitTogether rs c.args.theirs.now) c.args.found.now) (sym c.rules.ensures.value)
+    subst (λ rs. All (FitTogether rs c.args.theirs.now c.in_ok-states.states) c.args.found.now) (sym c.rules.ensures.value)
     (all_fit c.args.left.now c.args.right.now c.args.alphabet.now c.args.theirs.now c.args.pairs.now c.args.found.now c.in_ok-states.states c.requires.left.automaton
     c.requires.right.automaton c.requires.stand c.requires.closed c.in_ok-states.ensures.members)
 
+pub known-requires : goal.known-requires
+known-requires c = title_is_name
+
 -- an automaton by its parts
 abbrev parts : List ℕ → List Symbol → List (List ℕ) → List ℕ → List Rule → Automaton
-parts n s p fs rs = record { name = n; symbols = s; states = p; finals = fs; rules = rs }
+parts n s p fs rs = record { bits = 0; name = n; symbols = s; states = p; finals = fs; rules = rs }
 
 same_parts : (n m : List ℕ) (s t : List Symbol) (p q : List (List ℕ)) (fs : List ℕ) (rs : List Rule) → n ≡ m → s ≡ t → p ≡ q
     → parts n s p fs rs ≡ parts m t q fs rs
@@ -62,9 +66,8 @@ new-product-requires c =
     let R = c.in_ok-right_finals.right_finals in
     let fs = c.in_ok-finals.finals.items in
     let rs = c.in_ok-rules.rules.items in
-    let title : c.in-Ok.name ≡ codes "isect" = c.in-Ok.ensures.ok in
+    let title : c.in_ok-name.name ≡ codes "isect" = c.in_ok-name.ensures in
     let symbols : c.in_ok-symbols.symbols.items ≡ S = c.in_ok-symbols.ensures.items_if_clones_equal (λ x y same. same) ∙ c.symbols.ensures.value in
-    let named : IsName (codes "isect") = subst IsName title c.bytes-bytes.ensures.name in
     let zip : AllZip (IsPairOf A.rules theirs Z) found rs = subst (λ rules. AllZip (IsPairOf rules theirs Z) found rs) c.rules.ensures.value c.in_ok-rules.ensures in
     let names : All IsName (map pair_name Z) = subst (All IsName) c.in_ok-names.ensures.value c.in_ok-names.ensures.names in
     let symbol_names : All (λ a. IsName a.name) S =
@@ -72,9 +75,9 @@ new-product-requires c =
     let few_symbols : length S ≤ 65535 = subst (λ s. length s ≤ 65535) (sym c.requires.symbols) c.requires.few_symbols in
     let small = small_states A B S theirs pairs found Z c.requires.left.automaton c.requires.right.automaton c.requires.stand c.requires.closed c.in_ok-states.ensures.members c.requires.left.few_states
     c.requires.right.few_states in
-    subst IsListed (sym (same_parts c.in-Ok.name (codes "isect") c.in_ok-symbols.symbols.items S c.in_ok-names.names.items (map pair_name Z) fs rs title symbols c.in_ok-names.ensures.value))
+    subst IsListed (sym (same_parts c.in_ok-name.name (codes "isect") c.in_ok-symbols.symbols.items S c.in_ok-names.names.items (map pair_name Z) fs rs title symbols c.in_ok-names.ensures.value))
     (well_formed A B S theirs pairs found Z L R fs rs c.requires.stand c.requires.closed c.requires.few (rising_apart Z c.in_ok-states.ensures.rising) c.len-pairs.ensures.distinct
-    c.requires.left.automaton.rules c.requires.distinct c.in_ok-states.ensures.size small c.in_ok-finals.ensures zip names named symbol_names few_symbols)
+    c.requires.left.automaton.rules c.requires.distinct c.in_ok-states.ensures.size small c.in_ok-finals.ensures zip names title_is_name symbol_names few_symbols)
 
 pub returns-clause-product : goal.returns-clause-product
 returns-clause-product c =
@@ -89,20 +92,22 @@ returns-clause-product c =
     let R = c.in_ok-right_finals.right_finals in
     let fs = c.in_ok-finals.finals.items in
     let rs = c.in_ok-rules.rules.items in
-    let title : c.in-Ok.name ≡ codes "isect" = c.in-Ok.ensures.ok in
+    let title : c.in_ok-name.name ≡ codes "isect" = c.in_ok-name.ensures in
     let symbols : c.in_ok-symbols.symbols.items ≡ S = c.in_ok-symbols.ensures.items_if_clones_equal (λ x y same. same) ∙ c.symbols.ensures.value in
     let zip : AllZip (IsPairOf A.rules theirs Z) found rs = subst (λ rules. AllZip (IsPairOf rules theirs Z) found rs) c.rules.ensures.value c.in_ok-rules.ensures in
     let lefts : (q : ℕ) → Has L q ↔ Contains A.finals q = subst (λ xs. (q : ℕ) → Has L q ↔ Contains xs q) c.finals.ensures.value c.in_ok-left_finals.ensures.members in
     let rights : (q : ℕ) → Has R q ↔ Contains B.finals q = subst (λ xs. (q : ℕ) → Has R q ↔ Contains xs q) c.finals-2.ensures.value c.in_ok-right_finals.ensures.members in
-    let U : Automaton = record { name = codes "isect"; symbols = S; states = map pair_name Z; finals = fs; rules = rs } in (
+    let U : Automaton = record { bits = 0; name = codes "isect"; symbols = S; states = map pair_name Z; finals = fs; rules = rs } in
+    let made : c.new-product.result ≡ U = c.new-product.ensures
+    ∙ same_parts c.in_ok-name.name (codes "isect") c.in_ok-symbols.symbols.items S c.in_ok-names.names.items (map pair_name Z) fs rs title symbols c.in_ok-names.ensures.value in
+    let fitting : IsAutomaton U = subst IsAutomaton made c.name-name.ensures.listed.automaton in (
       U,
       (
         Z,
         multiplies A B S theirs pairs found Z L R fs rs c.requires.symbols c.requires.stand c.requires.closed c.requires.few c.in_ok-states.ensures.rising
-            (rising_apart Z c.in_ok-states.ensures.rising) c.in_ok-states.ensures.members lefts rights c.in_ok-finals.ensures zip,
+            (rising_apart Z c.in_ok-states.ensures.rising) c.in_ok-states.ensures.members lefts rights c.in_ok-finals.ensures zip c.requires.left.narrow fitting,
       ),
-      c.in_ok-canonical.ensures ∙ ap canon (c.new-product.ensures
-          ∙ same_parts c.in-Ok.name (codes "isect") c.in_ok-symbols.symbols.items S c.in_ok-names.names.items (map pair_name Z) fs rs title symbols c.in_ok-names.ensures.value),
+      c.in_ok-canonical.ensures ∙ ap canon made,
     )
 
 pub returns-clause-few_states : goal.returns-clause-few_states

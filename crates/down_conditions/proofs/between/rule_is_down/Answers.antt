@@ -1,10 +1,12 @@
-use Rattle.std.proofs.Common.{◌≡◌, ℕ, List, Some, length, refl, ap, subst, arith}
+use Rattle.std.proofs.Common.{◌≡◌, List, length, refl, ap, subst, arith}
 use Rattle.std.proofs.lemmas.Option.{slice_get_read}
 use Rattle.tree_definitions.specs.Tree.{Symbol}
 use Rattle.tree_definitions.specs.Automaton.{Rule}
 use Rattle.tree_definitions.specs.Relation.{Holds, IsAt}
+use Rattle.tree_definitions.proofs.Listing.{at_label, label_at}
 use Rattle.tree_definitions.proofs.Members.{at_unique}
-use Rattle.down_conditions.proofs.Blocks.{answers_rule, found_at, found_none, rule_answers}
+use Rattle.down_conditions.specs.Between.{IsStateDown}
+use Rattle.down_conditions.proofs.Blocks.{sought}
 use Rattle.down_conditions.proofs.between.rule_is_down.Goals as goal
 
 pub returns : goal.returns
@@ -20,10 +22,10 @@ returns c =
     let at : IsAt list c.rule.inside.symbol label = slice_get_read list (length list) c.rule.inside.symbol label refl (let l = c.requires.symbol in omega (arith, l, its, long)) c.index-symbols-rule.is in
     let there : IsAt L.symbols rule.symbol label = subst (λ i. IsAt L.symbols i label) its (subst (λ (xs : List Symbol). IsAt xs c.rule.inside.symbol label) c.symbols.ensures.value at) in
     let symbol = c.find-symbol.result in
-    let found = found_at c.args.alphabet.now H.symbols label symbol c.requires.alphabet c.find-symbol.ensures.found in
-    let none = found_none c.args.alphabet.now H.symbols label symbol c.requires.alphabet c.find-symbol.ensures.none in (
-      λ t a aat r l h.
-          let same : label ≡ a = at_unique L.symbols rule.symbol label a there aat in
-          rule_answers H c.symbols-symbols.ensures.listed.automaton R c.args.l c.args.h a rule r symbol (subst (λ (x : Symbol). (k : ℕ) → symbol ≡ Some k → IsAt H.symbols k x) same found) (c.answered_all.ensures.0 t r l h),
-      λ down. c.answered_all.ensures.1 (λ r l h. answers_rule H c.symbols-symbols.ensures.listed.automaton R c.args.l c.args.h label rule r symbol found none (down label there r l h)),
+    let ours = c.symbols.ensures.listed.narrow in
+    let so = sought H c.symbols-symbols.ensures.listed.narrow c.args.alphabet.now label symbol c.requires.alphabet c.find-symbol.ensures.found c.find-symbol.ensures.none in (
+      λ t a its_label.
+          let same : label ≡ a = at_unique L.symbols rule.symbol label a there (at_label L rule.symbol a ours its_label) in
+          subst (λ (x : Symbol). IsStateDown H R c.args.l c.args.h x rule.kids rule.parent) same ((c.answered_all.ensures label so).0 t),
+      λ down. (c.answered_all.ensures label so).1 (down label (label_at L rule.symbol label ours there)),
     )

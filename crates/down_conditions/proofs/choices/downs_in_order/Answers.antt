@@ -3,10 +3,10 @@ use Rattle.std.specs.Prelude.{All, Contains}
 use Rattle.std.proofs.lemmas.List.Elements.{All-contains, Contains-get_or}
 use Rattle.std.proofs.lemmas.Result.{IfOk-weaker}
 use Rattle.tree_definitions.specs.Automaton.{Rule}
+use Rattle.tree_definitions.proofs.Listing.{rank_of}
 use Rattle.down_conditions.specs.Choosing.{tuple_at}
 use Rattle.down_conditions.specs.Refuting.{AreDowns}
 use Rattle.down_conditions.proofs.Chosen.{tuple_down}
-use Rattle.down_conditions.proofs.Downed.{rank_of}
 use Rattle.down_conditions.proofs.choices.downs_in_order.Goals as goal
 
 pub forced_first-requires-clause-list : goal.forced_first-requires-clause-list

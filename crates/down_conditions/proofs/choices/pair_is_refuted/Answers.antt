@@ -4,9 +4,10 @@ use Rattle.std.proofs.lemmas.Bool.{cases_eq}
 use Rattle.std.proofs.lemmas.List.Elements.{All-contains, Contains-get_or}
 use Rattle.std.proofs.lemmas.Option.{slice_get-get_or, slice_get_read, slice_get_within}
 use Rattle.tree_definitions.specs.Tree.{Symbol}
-use Rattle.tree_definitions.specs.Automaton.{FitsRule, Rule}
+use Rattle.tree_definitions.specs.Automaton.{FitsRule, IsLabel, Rule}
 use Rattle.tree_definitions.specs.Cover.{Pair}
 use Rattle.tree_definitions.specs.Relation.{Holds, IsAt, Row}
+use Rattle.tree_definitions.proofs.Listing.{at_label, label_at}
 use Rattle.tree_definitions.proofs.Members.{at_unique, contains_at, place_of}
 use Rattle.down_conditions.specs.Refuting.{IsRuleCovered, Refutes}
 use Rattle.down_conditions.proofs.Downed.{line_of, rule_of}
@@ -40,7 +41,7 @@ returns-in-Ok-true-clause-refuted c t lists pairs index lat shifted =
     let h = c.in-Ok-true.ensures.refuted c.in-Ok-true.field-0-test pairs shifted in (
       x,
       rule.kids,
-      rule_of A r rule x c.args.pair.now.state at xat parent,
+      rule_of A r rule x c.args.pair.now.state at (label_at A rule.symbol x c.rules-rules.ensures.listed.narrow xat) parent,
       h.0,
       subst (λ (s : Row). Refutes A B R pairs s x rule.kids h.0) set (subst (λ (ks : List ℕ). Refutes A B R pairs c.pair.inside.set x ks h.0) kids h.1),
     )
@@ -74,7 +75,7 @@ loop-r-preserved c k s other l kat oat y yat pairs shifted =
     (λ (e : k ≡ i).
     let same : s ≡ r = at_unique list i s r (subst (λ j. IsAt list j s) e kat) lat in
     let which : other ≡ rule = at_unique A.rules r other rule (subst (λ j. IsAt A.rules j other) same oat) at in
-    let label : y ≡ x = at_unique A.symbols rule.symbol y x (subst (λ (o : Rule). IsAt A.symbols o.symbol y) which yat) xat in
+    let label : y ≡ x = at_unique A.symbols rule.symbol y x (at_label A rule.symbol y c.rules-rules.ensures.listed.narrow (subst (λ (o : Rule). IsLabel A o.symbol y) which yat)) xat in
     let covered = c.in-Ok-false.ensures.covered (ap not c.in-Ok-false.field-0-test) pairs shifted in
     let by_set = subst (λ (p : Row). IsRuleCovered A B R pairs p x c.as_slice.result.now) set covered in
     let by_kids = subst (λ (ks : List ℕ). IsRuleCovered A B R pairs c.args.pair.now.set x ks) kids by_set in

@@ -5,11 +5,11 @@ use Rattle.tree_definitions.specs.Automaton.{Rule}
 use Rattle.tree_definitions.specs.Cover.{Pair}
 use Rattle.tree_definitions.specs.DownCert.{SentTo}
 use Rattle.tree_definitions.specs.Relation.{Has, Holds}
+use Rattle.tree_definitions.proofs.Listing.{rank_of}
 use Rattle.down_conditions.specs.Choosing.{Assigns, Covers, Hits, Misses, tuple_at}
 use Rattle.down_conditions.specs.Covering.{AreShifted, Shifted}
 use Rattle.down_conditions.specs.Refuting.{IsRuleCovered, Refutes}
 use Rattle.down_conditions.proofs.Chosen.{covered_by, refuted_by, tuple_down}
-use Rattle.down_conditions.proofs.Downed.{rank_of}
 use Rattle.down_conditions.proofs.Shifting.{held_covered}
 use Rattle.down_conditions.proofs.Stepping.{held_grows}
 use Rattle.down_conditions.proofs.choices.rule_is_refuted.Goals as goal

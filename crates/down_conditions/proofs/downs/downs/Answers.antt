@@ -13,7 +13,7 @@ use Rattle.down_conditions.proofs.downs.downs.Goals as goal
 pub returns-in_default-clause-downs : goal.returns-in_default-clause-downs
 returns-in_default-clause-downs c tuple = (
   λ h. absurd (contains_none h.0 (subst (λ (xs : List ℕ). Contains xs h.0) c.new.ensures.items h.2)),
-  λ d. absurd (c.in_default.ensures.none (subst (λ (xs : List Symbol). Contains xs c.args.symbol.now) (sym c.requires.alphabet) (down_label c.args.b.now c.args.symbol.now c.args.set.now tuple d))),
+  λ d. absurd (c.in_default.ensures.none (subst (λ (xs : List Symbol). Contains xs c.args.symbol.now) (sym c.requires.alphabet) (down_label c.args.b.now c.symbols-symbols.ensures.listed.narrow c.args.symbol.now c.args.set.now tuple d))),
 )
 
 pub at-requires : goal.at-requires
@@ -39,7 +39,7 @@ returns-clause-downs c =
     let fits = c.symbols-symbols.ensures.listed.automaton in
     let symbol : IsAt B.symbols c.in-Some.k a = subst (λ (xs : List Symbol). IsAt xs c.in-Some.k a) c.requires.alphabet c.in-Some.ensures.found in
     IfOk-weaker c.rules_to.result (λ v. (r : ℕ) → Contains v.items r ↔ IsChosen B.rules list set (length list) r) (λ v. AreDowns B a set v.items)
-    (λ v are. chosen_downs B fits c.args.by_symbol.now c.requires.by_symbol a c.in-Some.k list symbol c.at.ensures set v.items are)
+    (λ v are. chosen_downs B fits c.symbols-symbols.ensures.listed.narrow c.args.by_symbol.now c.requires.by_symbol a c.in-Some.k list symbol c.at.ensures set v.items are)
     c.rules_to.ensures
 
 pub returns-clause-within : goal.returns-clause-within

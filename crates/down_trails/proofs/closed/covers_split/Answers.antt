@@ -82,6 +82,6 @@ returns c = (
       let kids = kids_of_rule A c.args.b.now all c.args.e c.args.r h.0 rule at in
       let there : IsAt slice h.1 h.2 = subst (λ (ks : List ℕ). IsAt ks h.1 h.2) (kids ∙ sym its) h.3 in
       let w = slice_get_within slice h.1 h.2 there in
-      let same = tuples_same A c.args.b.now all c.args.e c.args.r h.0 c.in_ok-tuples.ensures.split.0 ∙ c.in_ok-tuples.ensures.split.1 in
+      let same = tuples_same A c.args.b.now all c.args.e c.args.r h.0 c.in_ok-tuples.ensures.split.0 c.rules.ensures.listed.narrow ∙ c.in_ok-tuples.ensures.split.1 in
       absurd (c.loop-i.invariant h.1 h.2 (omega (arith, w, c.loop-i-test.false)) there (subst (λ (ts : List (List ℕ)). CoversAlone A R h.2 (SentBy ts choice h.1)) same h.4)),
 )

@@ -46,7 +46,7 @@ loop-at-preserved c =
       fresh = all_at_next all (λ k (e : DownEntry). RepeatsEntry A B all k e → ⊥) i x.0 inv.fresh x.1
           (λ h.
           let f = inv.filed h.0 h.1 h.2 h.3 in
-          let same : parts_of f.0 ≡ parts_of v = alike_key A B all c.requires.fits h.1 x.0 (parts_of f.0) (parts_of v) f.2 mine h.4 in
+          let same : parts_of f.0 ≡ parts_of v = alike_key A B c.rules-rules.ensures.listed.narrow all c.requires.fits h.1 x.0 (parts_of f.0) (parts_of v) f.2 mine h.4 in
           let b : true ≡ false = sym (any_key old v f.0 f.1 (sym same)) ∙ absent in
           cc);
     }
@@ -67,7 +67,7 @@ returns-then-not-branch-clause-some c =
     let s = some_key old v there in
     let f = inv.from s.0 s.1 in
     record {
-      here = (i, x.0, omega arith, x.1, (f.0, f.1, f.2, f.3, key_alike A B all c.requires.fits f.0 i f.1 x.0 (parts_of s.0) (parts_of v) f.3 x.1 f.4 mine (sym s.2)));
+      here = (i, x.0, omega arith, x.1, (f.0, f.1, f.2, f.3, key_alike A B c.rules-rules.ensures.listed.narrow all c.requires.fits f.0 i f.1 x.0 (parts_of s.0) (parts_of v) f.3 x.1 f.4 mine (sym s.2)));
       none_before = λ k l m. let e = m.2 in inv.fresh m.0 m.1 (omega arith) m.3 m.4;
     }
 

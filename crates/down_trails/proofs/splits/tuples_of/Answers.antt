@@ -7,6 +7,7 @@ use Rattle.tree_definitions.specs.Automaton.{Rule, FitsRule}
 use Rattle.tree_definitions.specs.Cover.{Pair}
 use Rattle.tree_definitions.specs.DownTrail.{HasPair, ListsDowns}
 use Rattle.tree_definitions.specs.Relation.{IsAt}
+use Rattle.tree_definitions.proofs.Listing.{label_at}
 use Rattle.tree_definitions.proofs.Members.{contains_at}
 use Rattle.ta_model.specs.Tuples.{kids_of}
 use Rattle.listed_pairs.specs.DownEntries.{entries_of, entry_of}
@@ -55,7 +56,7 @@ returns-clause-split c =
     let sread : IsAt symbols c.rule.inside.symbol a = slice_get_read symbols (length symbols) c.rule.inside.symbol a refl (omega (arith, ls, longer, its)) c.index-symbols-rule.is in
     let label : IsAt A.symbols rule.symbol a = subst (λ (xs : List Symbol). IsAt xs rule.symbol a) c.symbols.ensures.value (subst (λ n. IsAt symbols n a) its sread) in
     IfOk-weaker c.tuples_to.result (λ v. ListsDowns B a c.pair.inside.set (kids_of v.items)) (λ v. SplitsInto A B all e r (kids_of v.items))
-    (λ v h. split_of A B all e r c.requires.divided rule rat a label p named (kids_of v.items) (subst (λ (x : Pair). ListsDowns B a x.set (kids_of v.items)) c.pair.view_is h))
+    (λ v h. split_of A B all e r c.requires.divided rule rat a (label_at A rule.symbol a c.rules.ensures.listed.narrow label) p named (kids_of v.items) (subst (λ (x : Pair). ListsDowns B a x.set (kids_of v.items)) c.pair.view_is h))
     c.tuples_to.ensures
 
 pub returns-clause-states : goal.returns-clause-states

@@ -3,7 +3,7 @@ use Rattle.std.proofs.lemmas.Option.{slice_get_within}
 use Rattle.tree_definitions.specs.DownTrail.{DownEntry, IsDownStep}
 use Rattle.tree_definitions.proofs.Members.{at_within}
 use Rattle.listed_pairs.specs.DownEntries.{entries_of}
-use Rattle.down_trails.proofs.Splitting.{length_entries}
+use Rattle.down_trails.proofs.Splitting.{length_entries, labels_read}
 use Rattle.down_trails.proofs.Stepping.{all_at_next, first_not}
 use Rattle.down_trails.proofs.steps.first_wrong_entry.Goals as goal
 
@@ -30,3 +30,7 @@ returns-clause-none c i entry at =
     let long = length_entries c.args.entries.now in
     let w = slice_get_within (entries_of c.args.entries.now) i entry at in
     c.loop-at.invariant i entry (omega (arith, w, long, c.loop-at-test.false)) at
+
+pub rules_by_symbol-requires-clause-within : goal.rules_by_symbol-requires-clause-within
+rules_by_symbol-requires-clause-within c =
+    labels_read c.args.b.now c.rules.result.now c.symbols.result.now c.rules.ensures.value c.symbols.ensures.value c.rules.ensures.listed

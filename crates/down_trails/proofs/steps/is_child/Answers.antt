@@ -63,4 +63,4 @@ returns c =
     subst (λ (ts : List (List ℕ)). (s : ℕ) → Has row s ↔ SentBy ts choice place s) (sym same) (row_sent c.deref.result.now c.in_ok-tuples.tuples.items c.deref.ensures.value row choice place c.in_ok-row.ensures.members) in
     let states = ap (λ (xs : List (List ℕ)). length xs) c.states.ensures.value in
     let long : length row ≡ length pair.set = c.in_ok-row.ensures.long ∙ states ∙ sym c.requires.pair.set in
-    child_by_row A B all e r of choice place row members (IsTrue c.equals.result) pair rule at kid long (λ t. c.equals.ensures.0 t ∙ set, λ q. c.equals.ensures.1 (q ∙ sym set))
+    child_by_row A B all e r of choice place row members c.rules.ensures.listed.narrow (IsTrue c.equals.result) pair rule at kid long (λ t. c.equals.ensures.0 t ∙ set, λ q. c.equals.ensures.1 (q ∙ sym set))

@@ -18,5 +18,5 @@ returns c =
     let same = c.in_ok-tuples.ensures.split.1 in
     let count : length of.tuples ≡ (length c.as_slice.result.now) = ap (λ (ts : List (List ℕ)). length ts) same ∙ length-map c.in_ok-tuples.tuples.items (λ (v : SmallVec ℕ). v.items) ∙ sym (ap (λ (xs : List (SmallVec ℕ)). length xs) c.as_slice.ensures.value) in (
       λ t. (of, eqb-true (length choice) (length c.as_slice.result.now) t ∙ sym count),
-      λ h. eq-eqb (length choice) (length c.as_slice.result.now) (h.1 ∙ ap (λ (ts : List (List ℕ)). length ts) (tuples_same A B all e r h.0 of) ∙ count),
+      λ h. eq-eqb (length choice) (length c.as_slice.result.now) (h.1 ∙ ap (λ (ts : List (List ℕ)). length ts) (tuples_same A B all e r h.0 of c.rules-rules.ensures.listed.narrow) ∙ count),
     )

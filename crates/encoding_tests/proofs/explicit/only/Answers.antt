@@ -1,7 +1,13 @@
+use Rattle.std.proofs.Common.{codes, refl}
+use Rattle.tree_definitions.specs.Name.{is_section_word}
 use Rattle.encoding_tests.proofs.OneRule.{one_rule}
 use Rattle.encoding_tests.proofs.explicit.only.Goals as goal
 
-pub new-requires-2 : goal.new-requires-2
-new-requires-2 c =
-    rw (c.in-Ok.ensures.items, c.in-Ok-vec.ensures.items, c.in-Ok-vec-2.ensures.items, c.in-Ok-vec-3.ensures.items, c.new.ensures.items)
-    (one_rule _ _ _ c.bytes-title.ensures.name c.bytes-state.ensures.name c.bytes-leaf.ensures.name)
+pub known-requires : goal.known-requires
+unfolding is_section_word
+known-requires c = refl
+
+pub new-requires : goal.new-requires
+unfolding is_section_word
+new-requires c =
+    rw (c.in_ok-symbols.ensures, c.in_ok-states.ensures, c.in_ok-rules.ensures, c.in_ok-finals.ensures.items) (one_rule _ (codes "r") (codes "f") c.name.invariant refl refl)

@@ -25,4 +25,4 @@ returns c =
       λ m. let u = (c.loop-a.invariant kids).0 m in (u.0, u.2),
       λ u. (c.loop-a.invariant kids).1 (u.0, (all_of symbols i u.0 c.loop-a-test.false).1 ((of.members u.0).1 (kids, u.1)), u.1),
     )) h)
-    c.distinct.ensures
+    c.distinct.ensures.all

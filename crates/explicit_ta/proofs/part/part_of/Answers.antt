@@ -27,9 +27,9 @@ new-requires c =
     let listed = c.states-states.ensures.listed in
     let nb : IsNumbering row c.in_ok-kept.kept.items numbers (length A.states) = rw c.requires.width at c.in_ok-kept.ensures in
     let named : AllZip (IsAt A.states) c.in_ok-kept.kept.items names = rw (c.states-states.ensures.value, c.deref.ensures.value) at c.in_ok-names.ensures in
-    let is : ◌≡◌ {A = Automaton} (record { name = c.in_ok-name.name; symbols = c.in_ok-symbols.symbols.items; states = names; finals = c.in_ok-finals.finals.items; rules = c.in_ok-rules.rules.items }) (part_with A c.args.left.now row numbers names) =
-    same_lists (record { name = c.in_ok-name.name; symbols = c.in_ok-symbols.symbols.items; states = names; finals = c.in_ok-finals.finals.items; rules = c.in_ok-rules.rules.items }) (part_with A c.args.left.now row numbers names)
-    (c.in_ok-name.ensures.cases ∙ c.name.ensures.value) (c.in_ok-symbols.ensures.items_if_clones_equal (λ x y same. same) ∙ c.symbols.ensures.value) refl
+    let is : ◌≡◌ {A = Automaton} (record { bits = 0; name = c.in_ok-name.name; symbols = c.in_ok-symbols.symbols.items; states = names; finals = c.in_ok-finals.finals.items; rules = c.in_ok-rules.rules.items }) (part_with A c.args.left.now row numbers names) =
+    same_lists (record { bits = 0; name = c.in_ok-name.name; symbols = c.in_ok-symbols.symbols.items; states = names; finals = c.in_ok-finals.finals.items; rules = c.in_ok-rules.rules.items }) (part_with A c.args.left.now row numbers names)
+    refl (c.in_ok-name.ensures.cases ∙ c.name.ensures.value) (c.in_ok-symbols.ensures.items_if_clones_equal (λ x y same. same) ∙ c.symbols.ensures.value) refl
     (rw (c.deref-2.ensures.value, c.finals.ensures.value) at c.in_ok-finals.ensures) (rw c.deref-3.ensures.value at c.in_ok-rules.ensures) in
     subst IsListed (sym is) (part_listed A listed c.args.left.now row c.in_ok-kept.kept.items numbers names c.requires.distinct c.requires.rules c.requires.width nb named)
 
@@ -42,8 +42,8 @@ returns c =
     let listed = c.states-states.ensures.listed in
     let nb : IsNumbering row c.in_ok-kept.kept.items numbers (length A.states) = rw c.requires.width at c.in_ok-kept.ensures in
     let named : AllZip (IsAt A.states) c.in_ok-kept.kept.items names = rw (c.states-states.ensures.value, c.deref.ensures.value) at c.in_ok-names.ensures in
-    let is : ◌≡◌ {A = Automaton} (record { name = c.in_ok-name.name; symbols = c.in_ok-symbols.symbols.items; states = names; finals = c.in_ok-finals.finals.items; rules = c.in_ok-rules.rules.items }) (part_with A c.args.left.now row numbers names) =
-    same_lists (record { name = c.in_ok-name.name; symbols = c.in_ok-symbols.symbols.items; states = names; finals = c.in_ok-finals.finals.items; rules = c.in_ok-rules.rules.items }) (part_with A c.args.left.now row numbers names)
-    (c.in_ok-name.ensures.cases ∙ c.name.ensures.value) (c.in_ok-symbols.ensures.items_if_clones_equal (λ x y same. same) ∙ c.symbols.ensures.value) refl
+    let is : ◌≡◌ {A = Automaton} (record { bits = 0; name = c.in_ok-name.name; symbols = c.in_ok-symbols.symbols.items; states = names; finals = c.in_ok-finals.finals.items; rules = c.in_ok-rules.rules.items }) (part_with A c.args.left.now row numbers names) =
+    same_lists (record { bits = 0; name = c.in_ok-name.name; symbols = c.in_ok-symbols.symbols.items; states = names; finals = c.in_ok-finals.finals.items; rules = c.in_ok-rules.rules.items }) (part_with A c.args.left.now row numbers names)
+    refl (c.in_ok-name.ensures.cases ∙ c.name.ensures.value) (c.in_ok-symbols.ensures.items_if_clones_equal (λ x y same. same) ∙ c.symbols.ensures.value) refl
     (rw (c.deref-2.ensures.value, c.finals.ensures.value) at c.in_ok-finals.ensures) (rw c.deref-3.ensures.value at c.in_ok-rules.ensures) in
     (c.in_ok-kept.kept.items, subst (λ T. RestrictsTo A T row c.in_ok-kept.kept.items) (sym (c.new.ensures ∙ is)) (part_restricts A listed c.args.left.now row c.in_ok-kept.kept.items numbers names c.requires.distinct c.requires.rules c.requires.width nb named))

@@ -1,5 +1,4 @@
-use Rattle.std.proofs.Common.{◌≡◌, ◌+◌, length, arith}
-use Rattle.listed_pairs.specs.DownEntries.{entries_of}
+use Rattle.std.proofs.Common.{arith}
 use Rattle.down_trails.proofs.Splitting.{length_entries}
 use Rattle.incl_certificate.proofs.down_fitting.down_entries_fit.Goals as goal
 

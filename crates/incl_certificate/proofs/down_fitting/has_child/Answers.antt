@@ -1,6 +1,5 @@
-use Rattle.std.proofs.Common.{◌≡◌, ℕ, List, [], ◌∷◌, refl}
 use Rattle.tree_definitions.specs.Canonical.{canon}
-use Rattle.tree_definitions.specs.DownTrail.{DownEntry, Root, Child, Split}
+use Rattle.tree_definitions.specs.DownTrail.{Root, Child, Split}
 use Rattle.tree_definitions.specs.Relation.{IsAt}
 use Rattle.tree_definitions.proofs.Members.{at_unique}
 use Rattle.listed_pairs.specs.DownEntries.{entries_of}

@@ -7,7 +7,7 @@ use Rattle.tree_definitions.specs.DownCert.{DownCert}
 use Rattle.tree_definitions.specs.Relation.{Holds}
 use Rattle.tree_definitions.proofs.Downward.{down_included}
 use Rattle.incl_certificate.specs.Checked.{FailsDown, BothFails, FinalFails, ChoiceFails, CoveredDown}
-use Rattle.incl_certificate.proofs.Failing.{fails_there, none_there, rising_distinct, some_there}
+use Rattle.incl_certificate.proofs.Failing.{fails_there, none_there, some_there}
 use Rattle.incl_certificate.proofs.downward.check_down.Goals as goal
 
 pub returns-then-not-branch-clause-fails : goal.returns-then-not-branch-clause-fails
@@ -25,9 +25,6 @@ returns-in-Some-2-clause-fails c condition place =
     fails_there (FailsDown c.args.a.now c.args.b.now c.args.both.now c.args.pairs.now) 3 c.in-Some-2.place condition place
     (ChoiceFails c.in-Some-2.place (c.in_ok-is_down_simulation.ensures.0 c.if-not-branch.false)
     (none_there _ _ c.in_default.is c.in_ok-place.ensures.none) (some_there _ _ _ c.in-Some-2.is c.in_ok-place-2.ensures.some))
-
-pub first_covered-requires-clause-distinct : goal.first_covered-requires-clause-distinct
-first_covered-requires-clause-distinct c = rising_distinct c.args.pairs.now c.requires.pairs.rising
 
 pub returns-in-Some-3-clause-fails : goal.returns-in-Some-3-clause-fails
 returns-in-Some-3-clause-fails c condition place =

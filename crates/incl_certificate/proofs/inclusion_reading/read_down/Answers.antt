@@ -1,4 +1,4 @@
-use Rattle.std.proofs.Common.{◌≡◌, ℕ, ◌+◌, length, subst, ap₂, ◌∙◌}
+use Rattle.std.proofs.Common.{◌≡◌, ◌+◌, length, subst, ap₂}
 use Rattle.tree_definitions.specs.Relation.{Matrix}
 use Rattle.witness_trees.specs.Judged.{Is}
 use Rattle.certificate_lines.specs.Lines.{Piece}

@@ -1,5 +1,4 @@
-use Rattle.std.proofs.Common.{◌≡◌, true, sym, ◌∙◌, arith}
-use Rattle.certificate_lines.specs.Lines.{stands_at}
+use Rattle.std.proofs.Common.{sym, ◌∙◌}
 use Rattle.incl_certificate.specs.Text.{up_line, down_line}
 use Rattle.incl_certificate.proofs.Included.{down_whole, first_within, line_within, up_whole}
 use Rattle.incl_certificate.proofs.inclusion_reading.read_included.Goals as goal

@@ -1,9 +1,8 @@
-use Rattle.std.proofs.Common.{◌≡◌, length, drop, subst}
+use Rattle.std.proofs.Common.{◌≡◌, length, subst}
 use Rattle.tree_definitions.specs.Relation.{Matrix}
 use Rattle.witness_trees.specs.Judged.{Is}
 use Rattle.certificate_lines.specs.Lines.{Piece}
-use Rattle.certificate_lines.specs.PairsRead.{ArePairsOf}
-use Rattle.certificate_lines.specs.Relations.{IsRelationAt, relation_in}
+use Rattle.certificate_lines.specs.Relations.{relation_in}
 use Rattle.certificate_lines.proofs.PairInverse.{pairs_inverse}
 use Rattle.certificate_lines.proofs.RelationInverse.{relation_inverse}
 use Rattle.incl_certificate.specs.Text.{left_word, right_word}

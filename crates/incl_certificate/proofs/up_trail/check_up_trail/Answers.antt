@@ -7,7 +7,7 @@ pub first_wrong_step-requires-clause-fits : goal.first_wrong_step-requires-claus
 first_wrong_step-requires-clause-fits c = entries_fit c.args.a.now c.args.b.now c.args.budget c.args.entries.now c.requires.entries
 
 pub first_wrong_step-requires-clause-labels : goal.first_wrong_step-requires-clause-labels
-first_wrong_step-requires-clause-labels c = entries_labelled c.args.a.now c.args.b.now c.args.budget c.args.entries.now c.requires.entries
+first_wrong_step-requires-clause-labels c = entries_labelled c.args.a.now c.args.b.now c.args.budget c.args.entries.now c.requires.entries c.symbols-symbols.ensures.listed.narrow
 
 pub first_wrong_step-requires-clause-named : goal.first_wrong_step-requires-clause-named
 first_wrong_step-requires-clause-named c = entries_named c.args.a.now c.args.b.now c.args.budget c.args.entries.now c.requires.entries

@@ -2,7 +2,7 @@ use Rattle.tree_definitions.specs.Relation.{Holds}
 use Rattle.tree_definitions.specs.UpCert.{UpCert}
 use Rattle.tree_definitions.proofs.Upward.{up_included}
 use Rattle.incl_certificate.specs.Checked.{FailsUp, Rejecting, LeafFails, StepFails, CoveredUp}
-use Rattle.incl_certificate.proofs.Failing.{fails_there, none_there, rising_distinct, some_there}
+use Rattle.incl_certificate.proofs.Failing.{fails_there, none_there, some_there}
 use Rattle.incl_certificate.proofs.upward.check_up.Goals as goal
 
 pub returns-in-Some-clause-fails : goal.returns-in-Some-clause-fails
@@ -21,9 +21,6 @@ returns-in-Some-3-clause-fails c condition place =
     fails_there (FailsUp c.args.a.now c.args.b.now c.args.left.now c.args.right.now c.args.pairs.now) 4 c.in-Some-3.place condition place
     (StepFails c.in-Some-3.place c.in_ok-check_relations.ensures.holds (none_there _ _ c.in_default.is c.in_ok-place.ensures.none)
     (none_there _ _ c.in_default-2.is c.in_ok-place-2.ensures.none) (some_there _ _ _ c.in-Some-3.is c.in_ok-place-3.ensures.some))
-
-pub first_covered-requires-clause-distinct : goal.first_covered-requires-clause-distinct
-first_covered-requires-clause-distinct c = rising_distinct c.args.pairs.now c.requires.pairs.rising
 
 pub returns-in-Some-4-clause-fails : goal.returns-in-Some-4-clause-fails
 returns-in-Some-4-clause-fails c condition place =

@@ -36,9 +36,9 @@ new-merged-requires c =
     let rules : HasOnce (map (merged classes) A.rules) rs =
     subst (λ xs. HasOnce xs rs)
     (c.in_ok-merged_rules.ensures ∙ ap (λ l. map (merged l) c.rules.result.now) c.deref-4.ensures.value ∙ ap (map (merged classes)) c.rules.ensures.value) c.in_ok-rules.ensures in
-    let made : Automaton = record { name = c.in_ok-name.name; symbols = c.in_ok-symbols.symbols.items; states = names; finals = fs; rules = rs } in
+    let made : Automaton = record { bits = 0; name = c.in_ok-name.name; symbols = c.in_ok-symbols.symbols.items; states = names; finals = fs; rules = rs } in
     let is : made ≡ merged_with A names fs rs =
-    same_lists made (merged_with A names fs rs) (c.in_ok-name.ensures.cases ∙ c.name.ensures.value) (c.in_ok-symbols.ensures.items_if_clones_equal (λ x y same. same) ∙ c.symbols.ensures.value) refl refl refl in
+    same_lists made (merged_with A names fs rs) refl (c.in_ok-name.ensures.cases ∙ c.name.ensures.value) (c.in_ok-symbols.ensures.items_if_clones_equal (λ x y same. same) ∙ c.symbols.ensures.value) refl refl refl in
     subst IsListed (sym is) (merged_listed A c.name.ensures.listed D c.requires.transitive leaders firsts classes names fs rs led nb named finals rules)
 
 pub returns-clause-automaton : goal.returns-clause-automaton
@@ -61,9 +61,9 @@ returns-clause-automaton c =
     let rules : HasOnce (map (merged classes) A.rules) rs =
     subst (λ xs. HasOnce xs rs)
     (c.in_ok-merged_rules.ensures ∙ ap (λ l. map (merged l) c.rules.result.now) c.deref-4.ensures.value ∙ ap (map (merged classes)) c.rules.ensures.value) c.in_ok-rules.ensures in
-    let made : Automaton = record { name = c.in_ok-name.name; symbols = c.in_ok-symbols.symbols.items; states = names; finals = fs; rules = rs } in
+    let made : Automaton = record { bits = 0; name = c.in_ok-name.name; symbols = c.in_ok-symbols.symbols.items; states = names; finals = fs; rules = rs } in
     let is : made ≡ merged_with A names fs rs =
-    same_lists made (merged_with A names fs rs) (c.in_ok-name.ensures.cases ∙ c.name.ensures.value) (c.in_ok-symbols.ensures.items_if_clones_equal (λ x y same. same) ∙ c.symbols.ensures.value) refl refl refl in (
+    same_lists made (merged_with A names fs rs) refl (c.in_ok-name.ensures.cases ∙ c.name.ensures.value) (c.in_ok-symbols.ensures.items_if_clones_equal (λ x y same. same) ∙ c.symbols.ensures.value) refl refl refl in (
       merged_with A names fs rs,
       (firsts, merged_collapses A c.name.ensures.listed D c.requires.transitive leaders firsts classes names fs rs led nb named finals rules),
       c.in_ok-canonical.ensures ∙ ap canon (c.new-merged.ensures ∙ is),

@@ -16,6 +16,6 @@ returns c =
           let h : Holds m q r ↔ GreatestBy (length A.states) A.rules q r =
           subst (λ (rs : List Rule). Holds m q r ↔ GreatestBy (length A.states) rs q r) c.rules-rules.ensures.value
           (subst (λ n. Holds m q r ↔ GreatestBy n c.rules-rules.result.now q r) size (c.in_ok-sim.ensures.pairs q r)) in
-          let g = greatest_by_lines A c.rules-rules.ensures.listed.automaton q r in
+          let g = greatest_by_lines A c.rules-rules.ensures.listed.automaton c.rules-rules.ensures.listed.narrow q r in
           (λ k. g.0 (h.0 k), λ k. h.1 (g.1 k));
     }

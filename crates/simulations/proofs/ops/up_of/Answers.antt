@@ -18,6 +18,6 @@ returns c =
           subst (λ fs. Holds m q r ↔ GreatestUpBy n fs A.rules q r) c.finals.ensures.value
           (subst (λ (rs : List Rule). Holds m q r ↔ GreatestUpBy n c.finals.result.now rs q r) c.rules-rules.ensures.value
           (subst (λ k. Holds m q r ↔ GreatestUpBy k c.finals.result.now c.rules-rules.result.now q r) size (c.in_ok-sim.ensures.pairs q r))) in
-          let g = greatest_up_by_lines A c.rules-rules.ensures.listed.automaton q r in
+          let g = greatest_up_by_lines A c.rules-rules.ensures.listed.automaton c.rules-rules.ensures.listed.narrow q r in
           (λ k. g.0 (h.0 k), λ k. h.1 (g.1 k));
     }

@@ -4,7 +4,7 @@ use Rattle.tree_definitions.specs.Automaton.{Automaton}
 use Rattle.tree_definitions.specs.Canonical.{canon}
 use Rattle.tree_definitions.specs.Relation.{Has}
 use Rattle.tree_definitions.specs.Trim.{IsReachable}
-use Rattle.trim_ops.proofs.SameRules.{canon_reachable}
+use Rattle.tree_definitions.proofs.SameRules.{canon_reachable}
 use Rattle.trim_ops.proofs.ops.reachable.Goals as goal
 
 pub returns-clause-exact : goal.returns-clause-exact

@@ -16,6 +16,7 @@ restriction_trims : (A T : Automaton) (row : List Bool) → ((q : ℕ) → Has r
 restriction_trims A T row exact (kept, r) = (
   kept,
   record {
+    bits = r.bits;
     name = r.name;
     symbols = r.symbols;
     rising = r.rising;
@@ -23,6 +24,7 @@ restriction_trims A T row exact (kept, r) = (
     states = r.states;
     finals = r.finals;
     rules = r.rules;
+    fitting = r.fitting;
   },
 )
 

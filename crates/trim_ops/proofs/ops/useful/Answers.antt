@@ -4,7 +4,7 @@ use Rattle.tree_definitions.specs.Automaton.{Automaton}
 use Rattle.tree_definitions.specs.Canonical.{canon}
 use Rattle.tree_definitions.specs.Relation.{Has}
 use Rattle.tree_definitions.specs.Trim.{IsUseful}
-use Rattle.trim_ops.proofs.SameRules.{canon_useful}
+use Rattle.tree_definitions.proofs.SameRules.{canon_useful}
 use Rattle.trim_ops.proofs.ops.useful.Goals as goal
 
 pub returns-clause-exact : goal.returns-clause-exact

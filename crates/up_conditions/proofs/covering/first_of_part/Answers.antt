@@ -17,7 +17,7 @@ returns-in-Ok-false-clause-some c =
         rule,
         omega arith,
         at,
-        part_apart c.args.leaves (IsRuleCovered c.args.symbols.now c.args.b.now (Holds c.args.left.now) (Holds c.args.right.now) c.args.pairs.now rule) rule
+        part_apart c.args.leaves (IsRuleCovered c.args.a.now c.args.b.now (Holds c.args.left.now) (Holds c.args.right.now) c.args.pairs.now rule) rule
             (λ good. let b : true ≡ false = sym (c.in-Ok-false.ensures.1 good) ∙ c.in-Ok-false.field-0-test in cc),
       );
       none_before = λ k l h. let e = h.2 in h.4.1 (c.loop-i.invariant h.0 h.1 (omega (arith, l, e)) h.3 h.4.0);
@@ -29,7 +29,7 @@ loop-i-preserved c =
     let i = c.loop-i.i in
     let rule = c.index-rules-i.result in
     let at : IsAt rules i rule = slice_get_read rules (length rules) i rule refl c.loop-i-test.true c.index-rules-i.is in
-    before_next rules (IsPartCovered c.args.leaves c.args.symbols.now c.args.b.now (Holds c.args.left.now) (Holds c.args.right.now) c.args.pairs.now) i rule c.loop-i.invariant at
+    before_next rules (IsPartCovered c.args.leaves c.args.a.now c.args.b.now (Holds c.args.left.now) (Holds c.args.right.now) c.args.pairs.now) i rule c.loop-i.invariant at
     (c.in-Ok-true.ensures.0 c.in-Ok-true.field-0-test)
 
 pub returns-clause-none : goal.returns-clause-none

@@ -19,7 +19,7 @@ returns-in_default-clause-members c =
     IfOk-weaker c.zeros.result (λ row. IsEmptyFrom row 0) (λ row. (sets : List Row) → AreSets c.args.pairs.now c.args.chosen.now sets → (s : ℕ) → Has row s ↔ Post B a sets s)
     (λ row empty sets are s. (
       λ h. absurd (empty s (omega arith) h),
-      λ p. absurd (c.in_default.ensures.none (subst (λ (xs : List Symbol). Contains xs a) (sym c.requires.symbols) (post_label B a sets s p))),
+      λ p. absurd (c.in_default.ensures.none (subst (λ (xs : List Symbol). Contains xs a) (sym c.requires.symbols) (post_label B c.states-states.ensures.listed.narrow a sets s p))),
     ))
     c.zeros.ensures.members
 
@@ -47,12 +47,13 @@ returns-clause-members c =
     let chosen = c.args.chosen.now in
     let list = c.at.result.now in
     let fits = c.states-states.ensures.listed.automaton in
+    let narrow = c.states-states.ensures.listed.narrow in
     let symbol : IsAt B.symbols c.in-Some.k a = subst (λ (xs : List Symbol). IsAt xs c.in-Some.k a) c.requires.symbols c.in-Some.ensures.found in
     IfOk-weaker c.parents_of.result (λ row. (s : ℕ) → Has row s ↔ ((j : ℕ) × IsParentAt c.rules.result.now list pairs chosen j s))
     (λ row. (sets : List Row) → AreSets pairs chosen sets → (s : ℕ) → Has row s ↔ Post B a sets s)
     (λ row members sets are s.
     let ours = subst (λ (rules : List Rule). Has row s ↔ ((j : ℕ) × IsParentAt rules list pairs chosen j s)) c.rules.ensures.value (members s) in (
-      λ h. let p = ours.0 h in to_post B fits c.args.by_symbol.now c.requires.by_symbol a c.in-Some.k list symbol c.at.ensures pairs chosen sets are s p.0 p.1,
-      λ p. ours.1 (from_post B fits c.args.by_symbol.now c.requires.by_symbol a c.in-Some.k list symbol c.at.ensures pairs chosen sets are s p),
+      λ h. let p = ours.0 h in to_post B fits narrow c.args.by_symbol.now c.requires.by_symbol a c.in-Some.k list symbol c.at.ensures pairs chosen sets are s p.0 p.1,
+      λ p. ours.1 (from_post B fits narrow c.args.by_symbol.now c.requires.by_symbol a c.in-Some.k list symbol c.at.ensures pairs chosen sets are s p),
     ))
     c.parents_of.ensures.members

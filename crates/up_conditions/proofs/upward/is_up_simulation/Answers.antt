@@ -25,5 +25,5 @@ returns c =
       λ t. up_from_lines A R
           (λ q r h f. (ours r).0 (c.stays_in.ensures.0 c.if-not-stays_in.false q r h (subst (λ (xs : List ℕ). Contains xs q) (sym c.finals-2.ensures.value) f)))
           (subst IsUpLines c.rules-2.ensures.value (c.is_up_by.ensures.0 t)),
-      λ u. c.is_up_by.ensures.1 (subst IsUpLines (sym c.rules-2.ensures.value) (lines_from_up A c.finals.ensures.listed.automaton R u)),
+      λ u. c.is_up_by.ensures.1 (subst IsUpLines (sym c.rules-2.ensures.value) (lines_from_up A c.finals.ensures.listed.automaton c.finals.ensures.listed.narrow R u)),
     )

@@ -1,7 +1,5 @@
-use Rattle.std.proofs.Common.{ap, subst}
+use Rattle.std.proofs.Common.{subst}
 use Rattle.explicit_ta.specs.Pair.{Two}
-use Rattle.tree_definitions.specs.Automaton.{Automaton}
-use Rattle.tree_definitions.specs.Canonical.{canon}
 use Rattle.certificate_kinds.specs.Answers.{IsUpAnswer}
 use Rattle.upward_inclusion.proofs.Canonical.{answer_out}
 use Rattle.upward_inclusion.proofs.asking.includes_upward.Goals as goal

@@ -1,6 +1,5 @@
-use Rattle.std.proofs.Common.{ℕ, length, subst}
+use Rattle.std.proofs.Common.{ℕ, subst}
 use Rattle.tree_definitions.specs.Automaton.{Automaton, IsState}
-use Rattle.tree_definitions.specs.Canonical.{canon}
 use Rattle.tree_definitions.specs.Relation.{Holds}
 use Rattle.tree_definitions.specs.Simulation.{IsUp}
 use Rattle.simulations.specs.Relations.{IsGreatestUp}

@@ -1,5 +1,4 @@
 use Rattle.std.proofs.Common.{ℕ, List, length, subst}
-use Rattle.tree_definitions.specs.Relation.{IsSquare}
 use Rattle.bit_matrix.specs.Matrices.{IsIdentity}
 use Rattle.bit_matrix.specs.Matrices as words
 use Rattle.upward_inclusion.proofs.Identity.{identity_order}

@@ -3,8 +3,8 @@ use Rattle.std.specs.Io.KnownBytes.{Consumes}
 use Rattle.vata_core.proofs.loading.bytes_left.Given as goal
 
 -- what was read so far is the text, and the file goes on with what is left
-abbrev pub invariant-loop-buffer : goal.invariant-loop-buffer
-invariant-loop-buffer g l = record {
+abbrev pub invariant-loop-count : goal.invariant-loop-count
+invariant-loop-count g l = record {
   short : length l.text.items ≤ 134217728;
   buffer : vec_len l.buffer ≡ 65536;
   text : Consumes (g.F.Files.left l.fn.files) (g.F.Files.left l.files) l.text.items;
@@ -12,5 +12,5 @@ invariant-loop-buffer g l = record {
   later : g.F.Files.faults l.fn.files ≤ g.F.Files.faults l.files;
 }
 
-abbrev pub decreases-loop-buffer : goal.decreases-loop-buffer
-decreases-loop-buffer g l = 134217728 - length l.text.items
+abbrev pub decreases-loop-count : goal.decreases-loop-count
+decreases-loop-count g l = 134217728 - length l.text.items

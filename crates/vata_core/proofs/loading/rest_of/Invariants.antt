@@ -3,8 +3,8 @@ use Rattle.std.specs.Io.KnownBytes.{Consumes}
 use Rattle.vata_core.proofs.loading.rest_of.Given as goal
 
 -- what was read so far is the text, and the file goes on with what is left
-abbrev pub invariant-loop-buffer : goal.invariant-loop-buffer
-invariant-loop-buffer g l = record {
+abbrev pub invariant-loop-count : goal.invariant-loop-count
+invariant-loop-count g l = record {
   short : l.total ≤ 33554432;
   fresh : l.reader.failed ≡ false;
   size : length l.reader.text ≡ l.total;
@@ -14,5 +14,5 @@ invariant-loop-buffer g l = record {
   later : g.F.Files.faults l.fn.files ≤ g.F.Files.faults l.files;
 }
 
-abbrev pub decreases-loop-buffer : goal.decreases-loop-buffer
-decreases-loop-buffer g l = 33554432 - l.total
+abbrev pub decreases-loop-count : goal.decreases-loop-count
+decreases-loop-count g l = 33554432 - l.total

@@ -1,17 +1,18 @@
-use Rattle.std.proofs.Common.{◌≡◌, ◌⊎◌, ◌∙◌, List, ℕ, [], ◌∷◌, Some, IfSome, inl, inr, sym, ap, subst}
+use Rattle.std.proofs.Common.{◌≡◌, ◌⊎◌, ◌∙◌, List, ℕ, Some, IfSome, inl, inr, sym, ap, subst}
 use Rattle.std.specs.Prelude.{unwrap_or}
 use Rattle.std.specs.declared.option.Option.{Option}
 use Rattle.std.specs.Io.KnownBytes.{Appends}
-use Rattle.vata_outside.specs.Outside.{AppendsPrefix, File}
-use Rattle.vata_core.specs.Request.{Request, Incl, files_of}
-use Rattle.vata_core.specs.Answer.{answer_text}
-use Rattle.vata_core.specs.Files.{AreSpelled, IsBadAt, IsRefused}
-use Rattle.vata_core.specs.Lines.{Tells, memory_line, read_line, syntax_line}
-use Rattle.vata_core.specs.Outcome.{Answers, AnswersInPart, FailsToRead, IsLimited, MeansOfInclusion}
-use Rattle.vata_core.specs.Refusals.{HasReply, IsHalted, halt_line, halt_status, request_for}
+use Rattle.vata_outside.specs.Outside.{AppendsPrefix}
+use Rattle.vata_core.specs.Request.{Request, Binary, files_of}
+use Rattle.vata_core.specs.Files.{IsBadAt, IsLeftOfOne, IsRefused}
+use Rattle.vata_core.specs.Lines.{Tells, read_line, syntax_line}
+use Rattle.vata_core.specs.Outcome.{Answers, AnswersInPart, FailsToRead, IsAnswered, IsLimited, MeansOfInclusion}
+use Rattle.vata_core.specs.Refusals.{HasReply, IsHalted, halt_line}
 use Rattle.vata_core.specs.declared.status.Status.TheVariants as status
+use Rattle.vata_core.specs.declared.words.BinaryCommand.TheVariants.{Incl}
 use Rattle.vata_core.proofs.Answered.{answers, answers_in_part, is_answered, not_other, not_silent}
-use Rattle.vata_core.proofs.Halts.{bad_file, bad_or_spelled, limit_due, limited, limited_or_spelled, memory_told, nothing_wrong, syntax_due, unread_file}
+use Rattle.vata_core.proofs.Halts.{bad_file, bad_or_spelled, halt_unanswered, limit_due, limited, limited_or_spelled, memory_told, nothing_wrong, syntax_due, unread_file}
+use Rattle.vata_core.proofs.Languages.{speaks}
 use Rattle.vata_core.proofs.Meaning.{halt_means, reply_means}
 use Rattle.vata_core.proofs.running.run.Goals as goal
 
@@ -137,13 +138,42 @@ pub returns-in-Ok-write_all_of-clause-complete : goal.returns-in-Ok-write_all_of
 returns-in-Ok-write_all_of-clause-complete g c = λ request fs As asked told spelled within calm still. inl (is_answered c.in-Ok-answer_to.ensures.ok)
 
 pub returns-in-Err-answer_to-clause-inclusion : goal.returns-in-Err-answer_to-clause-inclusion
-returns-in-Err-answer_to-clause-inclusion g c = λ sim budget first second fs A B asked told spelled.
-    subst (MeansOfInclusion A B budget) (sym c.halted.ensures) (halt_means A B budget c.in-Err-answer_to.halt)
+returns-in-Err-answer_to-clause-inclusion g c = λ way sim budget first second fs A B asked told spelled.
+    subst (MeansOfInclusion way A B budget) (sym c.halted.ensures) (halt_means way A B budget c.in-Err-answer_to.halt)
 
 pub returns-in-Ok-write_all_of-clause-inclusion : goal.returns-in-Ok-write_all_of-clause-inclusion
-returns-in-Ok-write_all_of-clause-inclusion g c = λ sim budget first second fs A B asked told spelled.
-    let request = Incl sim budget first second in
+returns-in-Ok-write_all_of-clause-inclusion g c = λ way sim budget first second fs A B asked told spelled.
+    let request = Binary (Incl way sim budget) first second in
     let right : HasReply (Some fs) request c.in-Ok-answer_to.reply =
     subst (λ files. HasReply files request c.in-Ok-answer_to.reply) told
     (subst (λ r. HasReply (g.F.Files.files c.args.files.now) r c.in-Ok-answer_to.reply) (one_request _ _ request c.in-Ok.ensures.ok asked) c.in-Ok-answer_to.ensures.ok) in
-    reply_means fs sim budget first second A B c.in-Ok-answer_to.reply right spelled
+    reply_means fs way sim budget first second A B c.in-Ok-answer_to.reply right spelled
+
+pub returns-in-Ok-write_all_of-clause-language : goal.returns-in-Ok-write_all_of-clause-language
+returns-in-Ok-write_all_of-clause-language g c = λ request fs As old new done asked asks told spelled before after.
+    let right : HasReply (Some fs) request c.in-Ok-answer_to.reply =
+    subst (λ files. HasReply files request c.in-Ok-answer_to.reply) told
+    (subst (λ r. HasReply (g.F.Files.files c.args.files.now) r c.in-Ok-answer_to.reply) (one_request _ _ request c.in-Ok.ensures.ok asked) c.in-Ok-answer_to.ensures.ok) in
+    let written : Appends (g.K.Sink.written c.args.out.now) (g.K.Sink.written c.write_all_of.new.sink) c.in-Ok-answer_to.reply.text.items =
+    subst (Appends (g.K.Sink.written c.args.out.now) (g.K.Sink.written c.write_all_of.new.sink)) c.deref.ensures.value c.in-Ok-write_all_of.ensures.ok in
+    speaks fs request As c.in-Ok-answer_to.reply old new asks right spelled
+    (subst (λ x. Appends x (Some new) c.in-Ok-answer_to.reply.text.items) before (subst (λ y. Appends (g.K.Sink.written c.args.out.now) y c.in-Ok-answer_to.reply.text.items) after written))
+
+pub returns-in-Err-answer_to-clause-language : goal.returns-in-Err-answer_to-clause-language
+returns-in-Err-answer_to-clause-language g c = λ request fs As old new done asked asks told spelled before after.
+    absurd (halt_unanswered c.in-Err-answer_to.halt (subst IsAnswered c.halted.ensures done))
+
+pub returns-in-Err-answer_to-clause-left : goal.returns-in-Err-answer_to-clause-left
+returns-in-Err-answer_to-clause-left g c = λ calm.
+    subst (λ asked. IfSome asked (λ request. IsLeftOfOne (g.F.Files.files c.args.files.now) (files_of request) (g.F.Files.left c.answer_to.new.files))) (sym c.in-Ok.ensures.ok)
+    (c.in-Err-answer_to.ensures.left (λ e. calm (c.halted.ensures ∙ e)))
+
+pub returns-in-Ok-write_all_of-clause-left : goal.returns-in-Ok-write_all_of-clause-left
+returns-in-Ok-write_all_of-clause-left g c = λ calm.
+    subst (λ asked. IfSome asked (λ request. IsLeftOfOne (g.F.Files.files c.args.files.now) (files_of request) (g.F.Files.left c.answer_to.new.files))) (sym c.in-Ok.ensures.ok)
+    (c.in-Ok-answer_to.ensures.left tt)
+
+pub returns-clause-left : goal.returns-clause-left
+returns-clause-left g c = λ calm.
+    subst (λ asked. IfSome asked (λ request. IsLeftOfOne (g.F.Files.files c.args.files.now) (files_of request) (g.F.Files.left c.answer_to.new.files))) (sym c.in-Ok.ensures.ok)
+    (c.in-Ok-answer_to.ensures.left tt)

@@ -1,6 +1,5 @@
 use Rattle.std.proofs.Common.{◌∙◌, ◌++◌, subst, refl}
-use Rattle.std.specs.Fmt.{decimal}
-use Rattle.vata_outside.specs.Outside.{AppendsPrefix, Rose}
+use Rattle.vata_outside.specs.Outside.{AppendsPrefix}
 use Rattle.vata_core.proofs.Pieces.{cut_later, rose_before}
 use Rattle.vata_core.proofs.telling.put_number.Goals as goal
 

@@ -19,5 +19,5 @@ loop-k-preserved c =
     let zipped = rw c.symbols.ensures.value at c.in_ok-labels.ensures.places in
     let exact = subst (λ (rows : List Row). (q : ℕ) → Has c.in_ok-row.row q ↔ Steps A.rules rows c.index-label.result.now c.kids.result.now q) c.deref-in-loop-k.ensures.value c.in_ok-row.ensures.states in
     reached_step A nodes c.loop-k.k c.loop-k.reached.items c.push.new.self.items c.in_ok-row.row c.symbol.result c.kids.result.now c.in_ok-labels.labels.items c.index-label.result.now
-    c.symbols.ensures.listed.automaton.symbols c.in_ok-labels.ensures.list.nodes c.loop-k.invariant c.symbol.ensures c.kids.ensures zipped c.index-label.ensures
+    c.symbols.ensures.listed.narrow c.symbols.ensures.listed.automaton.symbols c.in_ok-labels.ensures.list.nodes c.loop-k.invariant c.symbol.ensures c.kids.ensures zipped c.index-label.ensures
     c.in_ok-row.ensures.each_state exact c.in_ok-push.ensures.items

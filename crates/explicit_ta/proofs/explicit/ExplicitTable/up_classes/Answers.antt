@@ -25,5 +25,5 @@ returns c =
     let two : AreLeads A.rules c.args.second.now c.deref-2.result.now =
     rw c.deref-2.ensures.value (leads_moved c.self.inside.by_kids A.rules c.args.second.now c.in_ok-second.second.items c.self.invariant.by_kids_of c.in_ok-second.ensures.members) in
     rw (← c.self.view_is) (IfOk-weaker c.up_classes_at.result _ (λ v. AreUpClasses A c.args.first.now c.args.second.now v.items)
-    (λ v h. up_classes_are A c.rules-listed.ensures.listed.automaton c.args.first.now c.args.second.now c.deref.result.now c.deref-2.result.now v.items one two h)
+    (λ v h. up_classes_are A c.rules-listed.ensures.listed.automaton c.rules-listed.ensures.listed.narrow c.args.first.now c.args.second.now c.deref.result.now c.deref-2.result.now v.items one two h)
     (rw c.states.ensures.value at c.up_classes_at.ensures))

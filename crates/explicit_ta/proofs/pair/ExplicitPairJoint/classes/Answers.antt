@@ -19,6 +19,6 @@ returns c =
     let C = c.self.inside.clusters in
     let found = symbols_of C c.args.x in
     let ties = joint_ties A B c.self.invariant.paired symbols places c.self.invariant.symbols_are c.symbols-distinct.ensures.alphabet.distinct c.self.invariant.placed in
-    rw (← c.self.view_is, ← c.self.invariant.symbols_are) (IfOk-weaker c.classes_at.result (λ v. AreClassesAt C c.args.x c.args.y found v.items × AreSymbolsOf C c.args.x found) (λ v. AreClasses symbols (JointRule A B) c.args.x c.args.y v.items)
-    (λ v h. classes_are symbols (JointRule A B) (joint_rules A B places) ties C (length A.states + length B.states) c.self.invariant.rules_of c.args.x c.args.y found v.items h.1 h.0)
+    rw (← c.self.view_is, ← c.self.invariant.symbols_are) (IfOk-weaker c.classes_at.result (λ v. AreClassesAt C c.args.x c.args.y found v.items × AreSymbolsOf C c.args.x found) (λ v. AreClasses A.bits symbols (JointRule A B) c.args.x c.args.y v.items)
+    (λ v h. classes_are symbols (JointRule A B) (joint_rules A B places) ties C (length A.states + length B.states) c.self.invariant.rules_of A.bits c.self.invariant.paired.left.narrow c.args.x c.args.y found v.items h.1 h.0)
     (if_ok_both c.classes_at.result (λ v. AreClassesAt C c.args.x c.args.y found v.items) (λ v. AreSymbolsOf C c.args.x found) c.classes_at.ensures.classes c.classes_at.ensures.symbols))

@@ -10,6 +10,6 @@ use Rattle.explicit_ta.proofs.pair.ExplicitPairJoint.kids_with.Goals as goal
 pub returns : goal.returns
 returns c =
     let A = c.self.inside.left in
-    let ties = automaton_ties A c.rules-listed.ensures.listed.automaton in
+    let ties = automaton_ties A c.rules-listed.ensures.listed.automaton c.rules-listed.ensures.listed.narrow in
     rw (← c.self.view_is) (IfOk-weaker c.tuples_from.result _ (λ v. HasKidsWith A c.args.q (kids_of v.items))
     (λ v h. stand_with A.symbols (HasRule A) A.rules ties c.args.q (kids_of v.items) (uses_are c.self.inside.uses (length A.states) A.rules c.args.q (kids_of v.items) c.self.invariant.up.uses_of h)) c.tuples_from.ensures)

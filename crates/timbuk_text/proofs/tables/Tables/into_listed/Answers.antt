@@ -4,6 +4,7 @@ use Rattle.timbuk_text.proofs.tables.Tables.into_listed.Goals as goal
 
 pub new-requires : goal.new-requires
 new-requires c = subst IsListed (λ i. record {
+  bits = 0;
   name = sym c.in_ok-name.ensures i;
   symbols = sym c.in_ok-symbols.ensures i;
   states = sym (c.in_ok-states.ensures ∙ c.words.ensures.value) i;
@@ -13,6 +14,7 @@ new-requires c = subst IsListed (λ i. record {
 
 pub returns : goal.returns
 returns c = c.new.ensures ∙ (λ i. record {
+  bits = 0;
   name = c.in_ok-name.ensures i;
   symbols = c.in_ok-symbols.ensures i;
   states = (c.in_ok-states.ensures ∙ c.words.ensures.value) i;
