@@ -1,11 +1,14 @@
 -- Which measures of a command are over their numbers.
-use Rattle.std.proofs.Common.{◌≡◌, ◌<◌, ap, arith, subst}
+use Rattle.std.proofs.Common.{◌≡◌, ◌<◌, ◌≤◌, length, ap, arith, subst}
 use Rattle.explicit_ta.specs.Pair.{Two}
 use Rattle.tree_definitions.specs.Automaton.{Automaton}
 use Rattle.tree_definitions.specs.Canonical.{canon}
 use Rattle.bool_ops.specs.Results.{HasMoreRules, HasMoreStates}
 use Rattle.quotient.specs.Merged.{HasMoreUseful}
-use Rattle.vata_core.specs.Limits.{ExceedsProduct, ExceedsQuotient, ExceedsUnion, IsFirstOver, turn}
+use Rattle.vata_core.specs.Limits.{ExceedsProduct, ExceedsQuotient, ExceedsSimulation, ExceedsUnion, HasManySymbols, IsFirstOver, turn}
+use Rattle.vata_core.specs.Refusals.{IsOperationHalt}
+use Rattle.vata_core.specs.declared.halting.Halt.{Halt}
+use Rattle.vata_core.specs.declared.halting.Halt.TheVariants as halt
 use Rattle.vata_core.specs.declared.measure.Measure.{Measure}
 use Rattle.vata_core.specs.declared.measure.Measure.TheVariants.{Symbols, Pairs, Rules, Relation}
 use Rattle.bool_ops.proofs.CanonicalProduct.{more_rules_in, more_rules_out, more_states_in, more_states_out}
@@ -62,3 +65,33 @@ module _ (A T : Automaton) (is : T ≡ A) where
       earlier_none Pairs lt e = e
       earlier_none Rules lt e = e
       earlier_none Relation lt e = omega (arith, lt)
+
+-- too many symbols of both
+pub past_symbols : (A B : Automaton) → HasManySymbols A B → IsFirstOver (λ what. ExceedsUnion what A B) Symbols
+past_symbols A B h = record { over = h; first = λ earlier lt over. omega (arith, lt) }
+
+-- what has no pair has no product
+pub pair_halt : (A B : Automaton) (h : Halt) → IsOperationHalt (λ what. ExceedsUnion what A B) h → IsOperationHalt (λ what. ExceedsProduct what A B) h
+pair_halt A B (halt.File place r) e = e
+pair_halt A B (halt.Past Symbols) e = record { over = e.over; first = λ earlier lt over. omega (arith, lt) }
+pair_halt A B (halt.Past Pairs) e = absurd e.over
+pair_halt A B (halt.Past Rules) e = absurd e.over
+pair_halt A B (halt.Past Relation) e = absurd e.over
+pair_halt A B halt.Memory e = tt
+
+-- too many states of a relation
+pub past_states : (A : Automaton) → 20000 < length A.states → IsFirstOver (λ what. ExceedsSimulation what A) Relation
+past_states A h = record { over = h; first = earlier_none }
+  where
+    earlier_none : (earlier : Measure) → turn earlier < 3 → ExceedsSimulation earlier A → ⊥
+    earlier_none Symbols lt e = e
+    earlier_none Pairs lt e = e
+    earlier_none Rules lt e = e
+    earlier_none Relation lt e = omega (arith, lt)
+
+-- a relation of few states
+pub simulation_within : (A : Automaton) → length A.states ≤ 20000 → (what : Measure) → ExceedsSimulation what A → ⊥
+simulation_within A few Symbols e = e
+simulation_within A few Pairs e = e
+simulation_within A few Rules e = e
+simulation_within A few Relation e = omega (arith, few, e)

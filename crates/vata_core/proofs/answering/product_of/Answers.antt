@@ -1,7 +1,7 @@
 use Rattle.std.proofs.Common.{Err, ap, subst}
 use Rattle.explicit_ta.specs.Pair.{Two}
 use Rattle.bool_ops.specs.Results.{IsCanonicalProduct}
-use Rattle.vata_core.proofs.Measures.{past_pairs, past_rules, product_within}
+use Rattle.vata_core.proofs.Measures.{pair_halt, past_pairs, past_rules, product_within}
 use Rattle.bool_ops.proofs.CanonicalProduct.{product_out}
 use Rattle.vata_core.proofs.answering.product_of.Goals as goal
 
@@ -21,3 +21,6 @@ returns-in-Err-TooManyStates-clause-err c =
 pub returns-in-Err-TooManyRules-clause-err : goal.returns-in-Err-TooManyRules-clause-err
 returns-in-Err-TooManyRules-clause-err c =
     past_rules c.args.a.now c.args.b.now c.in-Ok.pair c.in-Ok.ensures.ok c.in-Ok.ensures.few (c.in-Err-TooManyRules.ensures.states_first (ap Err c.in-Err-TooManyRules.field-0-is)) (c.in-Err-TooManyRules.ensures.rules (ap Err c.in-Err-TooManyRules.field-0-is))
+
+pub returns-in-Err-clause-err : goal.returns-in-Err-clause-err
+returns-in-Err-clause-err c = pair_halt c.args.a.now c.args.b.now c.in-Err.halt c.in-Err.ensures.err
