@@ -4,17 +4,16 @@ use Rattle.std.specs.Prelude.{Contains}
 use Rattle.std.proofs.lemmas.Bool.{cases_lt}
 use Rattle.std.proofs.lemmas.List.{length-map, length_push, map-append}
 use Rattle.std.proofs.lemmas.Option.{slice_get_within}
-use Rattle.tree_definitions.specs.Relation.{Row, Has, IsAt, Holds, Below}
+use Rattle.tree_definitions.specs.Relation.{Has, IsAt, Holds, Below}
 use Rattle.tree_definitions.specs.Cover.{CoversUp}
 use Rattle.tree_definitions.specs.UpTrail.{UpEntry}
 use Rattle.tree_definitions.proofs.Members.{at_unique}
 use Rattle.ta_model.specs.Macrostates.{Macrostates, row_at}
-use Rattle.bit_rows.specs.Rows.{IsEmptyFrom, IsLeastFrom}
 use Rattle.upward_search.specs.Search.{IsKeptOver}
 use Rattle.upward_search.proofs.Zips.{at_push, at_last, at_push_cases}
 use Rattle.antichain_up.specs.ByState.{AreByState, TakesOut}
 use Rattle.antichain_up.specs.Entries.{EntryRow, EntryList, Added, Kept, up_entry, up_entries}
-use Rattle.antichain_up.specs.Orders.{TwoOrders}
+use Rattle.antichain_up.specs.Orders.{TwoOrders, IsEmptyFrom, IsLeastFrom}
 use Rattle.antichain_up.proofs.Views.{map_at, map_from}
 
 module _ (store : Macrostates) (both : TwoOrders) (state set : ℕ) where
@@ -42,26 +41,26 @@ module _ (store : Macrostates) (both : TwoOrders) (state set : ℕ) where
         let same : e.state ≡ r = subst (λ (x : EntryRow). x.state ≡ r) (at_unique list.rows k s.1.0 e s.1.1 eat) s.1.2 in
         (k, up_entry store e, s.0, map_at (up_entry store) list.rows k e eat, record { state = subst (Holds both.left state) (sym same) above; set = under })
 
-    pub none_more : (lists : List (List ℕ)) (from r : ℕ) (above : Row) (numbers : List ℕ) → AreByState list lists → IsAt lists r numbers
-        → ((q : ℕ) → Holds both.left state q → Has above q) → IsLeastFrom above from r → ¬ SomeOf numbers list.rows → NoneBefore from → NoneBefore (r + 1)
-    none_more lists from r above numbers by_state at members least none before k e l kept eat holds under =
+    pub none_more : (lists : List (List ℕ)) (from r : ℕ) (numbers : List ℕ) → AreByState list lists → IsAt lists r numbers
+        → IsLeastFrom (λ q. Holds both.left state q) from r → ¬ SomeOf numbers list.rows → NoneBefore from → NoneBefore (r + 1)
+    none_more lists from r numbers by_state at least none before k e l kept eat holds under =
         elim (cases_lt e.state from) [
           | inl earlier ↦ before k e earlier kept eat holds under
           | inr later ↦
-              let m = least.least e.state later (members e.state holds) in
+              let m = least.least e.state later holds in
               let same : e.state ≡ r = omega (arith, m, l) in
               none (k, e, by_state.all r k numbers at kept (e, eat, same), eat, under)
         ]
 
-    pub none_covers : (from : ℕ) (above : Row) → ((q : ℕ) → Holds both.left state q → Has above q) → IsEmptyFrom above from → NoneBefore from
+    pub none_covers : (from : ℕ) → IsEmptyFrom (λ q. Holds both.left state q) from → NoneBefore from
         → ¬ IsKeptOver (Holds both.left) (Holds both.right) (up_entries store list) (Kept list) state (Has (row_at store set))
-    none_covers from above members none before (k, entry, kept, at, covers) =
+    none_covers from none before (k, entry, kept, at, covers) =
         let f = map_from (up_entry store) list.rows k entry at in
         let c : CoversUp (Holds both.left) (Holds both.right) (up_entry store f.0).pair state (Has (row_at store set)) =
         subst (λ (x : UpEntry). CoversUp (Holds both.left) (Holds both.right) x.pair state (Has (row_at store set))) (sym f.2) covers in
         elim (cases_lt f.0.state from) [
           | inl earlier ↦ before k f.0 earlier kept f.1 c.state c.set
-          | inr later ↦ none f.0.state later (members f.0.state c.state)
+          | inr later ↦ none f.0.state later c.state
         ]
 
   -- the pair covers the entry, whose state is before this one
@@ -78,16 +77,16 @@ module _ (store : Macrostates) (both : TwoOrders) (state set : ℕ) where
     out = λ k e at has d. omega (arith, d.0);
   }
 
-  pub out_more : (from r : ℕ) (below : Row) (x y z : EntryList) → ((q : ℕ) → Has below q → Holds both.left q state) → ((q : ℕ) → Holds both.left q state → Has below q) → IsLeastFrom below from r
+  pub out_more : (from r : ℕ) (x y z : EntryList) → IsLeastFrom (λ q. Holds both.left q state) from r
       → TakesOut (IsCoveredBefore from) x y → TakesOut (λ e. (e.state ≡ r) × IsOver e) y z → TakesOut (IsCoveredBefore (r + 1)) x z
-  out_more from r below x y z holds members least first next = record {
+  out_more from r x y z least first next = record {
     states = next.states ∙ first.states;
     rows = next.rows ∙ first.rows;
     many = next.many ∙ first.many;
     stays = λ k e at has. elim (first.stays k e at has) [
       | inl h ↦ elim (next.stays k e (subst (λ rows. IsAt rows k e) (sym first.rows) at) h) [
         | inl g ↦ inl g
-        | inr d ↦ let m = d.0 in inr (omega (arith, m), subst (λ q. Holds both.left q state) (sym d.0) (holds r least.set), d.1)
+        | inr d ↦ let m = d.0 in inr (omega (arith, m), subst (λ q. Holds both.left q state) (sym d.0) least.member, d.1)
       ]
       | inr d ↦ let m = d.0 in let o = least.from_on in inr (omega (arith, m, o), d.1, d.2)
     ];
@@ -95,18 +94,18 @@ module _ (store : Macrostates) (both : TwoOrders) (state set : ℕ) where
     out = λ k e at has d. elim (cases_lt e.state from) [
       | inl earlier ↦ first.out k e at (next.was k has) (earlier, d.1, d.2)
       | inr later ↦
-          let m = least.least e.state later (members e.state d.1) in
+          let m = least.least e.state later d.1 in
           let l = d.0 in
           let same : e.state ≡ r = omega (arith, m, l) in
           next.out k e (subst (λ rows. IsAt rows k e) (sym first.rows) at) has (same, d.2)
     ];
   }
 
-  pub pushed : (from symbol : ℕ) (kids : List ℕ) (below : Row) (x y z : EntryList) → length x.kept ≡ length x.rows
-      → ((q : ℕ) → Holds both.left q state → Has below q) → IsEmptyFrom below from → TakesOut (IsCoveredBefore from) x y
+  pub pushed : (from symbol : ℕ) (kids : List ℕ) (x y z : EntryList) → length x.kept ≡ length x.rows
+      → IsEmptyFrom (λ q. Holds both.left q state) from → TakesOut (IsCoveredBefore from) x y
       → z ≡ record { states = y.states; rows = y.rows ++ record { state = state; set = set; symbol = symbol; kids = kids } ∷ []; kept = y.kept ++ true ∷ [] }
       → Added (Holds both.left) (Holds both.right) store x (record { state = state; set = set; symbol = symbol; kids = kids }) z
-  pushed from symbol kids below x y z flags members none first is =
+  pushed from symbol kids x y z flags none first is =
       subst (Added (Holds both.left) (Holds both.right) store x entry) (sym is') (record {
         states = first.states;
         rows = refl;
@@ -128,7 +127,7 @@ module _ (store : Macrostates) (both : TwoOrders) (state set : ℕ) where
               let kept = still k (slice_get_within x.rows k f.0 f.1) has in
               elim (cases_lt f.0.state from) [
                 | inl earlier ↦ first.out k f.0 f.1 kept (earlier, c.state, c.set)
-                | inr later ↦ none f.0.state later (members f.0.state c.state)
+                | inr later ↦ none f.0.state later c.state
               ];
         };
       })

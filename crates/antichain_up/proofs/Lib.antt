@@ -1,6 +1,7 @@
 mod Marks
 mod Views
 mod Sets
+mod Next
 mod Grouped
 mod Covered
 mod Numbers

@@ -173,11 +173,8 @@ impl Entries {
         ensures { IsTrue result ↔ IsKeptOver (Holds orders.now.left) (Holds orders.now.right)
             (up_entries store.now self.now) (Kept self.now) state (Has (row_at store.now set)) }
     {
-        let above = orders.above(state as usize);
-        // The number of places tells the proof that a place fits.
-        let _places = above.len();
         let mut from = 0;
-        while let Some(r) = above.first_from(from) {
+        while let Some(r) = orders.next_above(state as usize, from) {
             if has_below(orders, store, &self.entries, self.by_state.at(r), set) {
                 return true;
             }
@@ -207,11 +204,8 @@ impl Entries {
     {
         // The number of entries tells the proof that each has a flag.
         let _entries = self.len();
-        let below = orders.below(state as usize);
-        // The number of places tells the proof that a place fits.
-        let _places = below.len();
         let mut from = 0;
-        while let Some(r) = below.first_from(from) {
+        while let Some(r) = orders.next_below(state as usize, from) {
             self.take_out(orders, store, r, set);
             from = r + 1;
         }

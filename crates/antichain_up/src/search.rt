@@ -366,19 +366,19 @@ fn run<J: Joint>(
 fn told<J: Joint>(
     j: &J,
     search: &Search,
-    orders: Orders,
+    orders: &Orders,
     budget: u64,
     progress: Progress,
 ) -> Result<Certificate, AllocError>
-    requires left { IsUpOrder (J.left j.now) orders.left }
-    requires right { IsUpOrder (J.right j.now) orders.right }
+    requires left { IsUpOrder (J.left j.now) orders.now.left }
+    requires right { IsUpOrder (J.right j.now) orders.now.right }
     requires some { 1 ≤ budget }
     requires few { budget ≤ 1000000 }
-    requires after { IsAfter (J.left j.now) (J.right j.now) orders budget progress search.now }
+    requires after { IsAfter (J.left j.now) (J.right j.now) orders.now budget progress search.now }
     requires closed { WhenGoing progress
-        (IsClosed (J.left j.now) (J.right j.now) (Holds orders.left) (Holds orders.right)
+        (IsClosed (J.left j.now) (J.right j.now) (Holds orders.now.left) (Holds orders.now.right)
         (entries_of search.now) (Kept search.now.entries) (Kept search.now.entries)) }
-    ensures answer { IfOk result (IsUpAnswer (J.left j.now) (J.right j.now) orders.left orders.right budget) }
+    ensures answer { IfOk result (IsUpAnswer (J.left j.now) (J.right j.now) orders.now.left orders.now.right budget) }
     ensures decided { length (J.left j.now).states * 2 ^ length (J.right j.now).states ≤ budget
         → IfOk result IsDecided }
 {
@@ -390,8 +390,8 @@ fn told<J: Joint>(
         Progress::Going => {
             let pairs = search.entries.kept_pairs(&search.store)?;
             Ok(Certificate::Up {
-                left: orders.left,
-                right: orders.right,
+                left: orders.left.copy()?,
+                right: orders.right.copy()?,
                 pairs,
             })
         }
@@ -402,8 +402,8 @@ fn told<J: Joint>(
         Progress::Full => {
             let entries = search.entries.trail(&search.store)?;
             Ok(Certificate::UpTrail {
-                left: orders.left,
-                right: orders.right,
+                left: orders.left.copy()?,
+                right: orders.right.copy()?,
                 budget,
                 entries,
             })
@@ -440,5 +440,5 @@ pub fn includes<J: Joint>(
         next: 0,
     };
     let progress = run(j, &mut search, &orders, budget as usize)?;
-    told(&*j, &search, orders, budget, progress)
+    told(&*j, &search, &orders, budget, progress)
 }

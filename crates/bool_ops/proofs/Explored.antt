@@ -8,7 +8,7 @@ use Rattle.tree_definitions.specs.Automaton.{Rule}
 use Rattle.tree_definitions.specs.Product.{Both}
 use Rattle.tree_definitions.specs.Relation.{IsAt}
 use Rattle.tree_definitions.proofs.Members.{at_unique, place_of}
-use Rattle.bool_ops.specs.Closing.{AreAlike, Grows, Settled, SettledWith}
+use Rattle.bool_ops.specs.Closing.{AreAlike, AreHeld, Grows, Settled, SettledWith}
 use Rattle.bool_ops.specs.Filing.{entries_of, slot_of, HasSlots, IsFiled}
 use Rattle.bool_ops.proofs.Closed.{grows_none, grows_keeps, settled_kept}
 
@@ -50,15 +50,20 @@ module _ (ours theirs : List Rule) (base f0 p f p2 f2 : List Both) (before : Gro
       (done : (s j : ℕ) (left right : Rule) → j < i → IsAt ours r left → IsAt theirs s right → AreAlike left right → IsAt left.kids j x.left
       → IsAt right.kids j x.right → Settled ours theirs base p f r s) where
     pub place_step : (list : List ℕ)
-        → ((s : ℕ) (right : Rule) → IsAt theirs s right → right.symbol ≡ mine.symbol → IsAt (entries_of right.kids) i x.right → Contains list s)
+        → ((s : ℕ) (right : Rule) → IsAt theirs s right → AreAlike mine right → IsAt right.kids i x.right → AreHeld p mine.kids right.kids → Contains list s)
         → ((s : ℕ) → Contains list s → Settled ours theirs p p2 f2 r s)
         → (s j : ℕ) (left right : Rule) → j < i + 1 → IsAt ours r left → IsAt theirs s right → AreAlike left right → IsAt left.kids j x.left
         → IsAt right.kids j x.right → Settled ours theirs base p2 f2 r s
     place_step list whole here s j left right m lat sat alike jat kat = ⊎_elim
         (λ (e : j ≡ i).
         let which : left ≡ mine = at_unique ours r left mine lat rat in
-        let symbol : right.symbol ≡ mine.symbol = sym alike.symbol ∙ ap (λ (z : Rule). z.symbol) which in
-        fresh r s (here s (whole s right sat symbol (entries_at right.kids i x.right (subst (λ z. IsAt right.kids z x.right) e kat)))))
+        let both_alike : AreAlike mine right = subst (λ (z : Rule). AreAlike z right) which alike in
+        fresh r s (λ l2 r2 lat2 sat2 alike2 held2.
+        let a : l2 ≡ mine = at_unique ours r l2 mine lat2 rat in
+        let b : r2 ≡ right = at_unique theirs s r2 right sat2 sat in
+        let held : AreHeld p mine.kids right.kids =
+        subst (λ (z : Rule). AreHeld p mine.kids z.kids) b (subst (λ (z : Rule). AreHeld p z.kids r2.kids) a held2) in
+        here s (whole s right sat both_alike (subst (λ z. IsAt right.kids z x.right) e kat) held) l2 r2 lat2 sat2 alike2 held2))
         (λ (d : j ≢ i). still r s (done s j left right (omega arith) lat sat alike jat kat))
         (cases_eq j i)
 

@@ -79,7 +79,7 @@ slots_add rules Done Done2 slots new r rule i q rat iat m a more = record {
   ];
 }
 
-at_set : (xs : List (List ℕ)) (i : ℕ) (v : List ℕ) (j : ℕ) (y : List ℕ) → IsAt (set xs i v) j y → ((j ≡ i) × (y ≡ v)) ⊎ ((j ≢ i) × IsAt xs j y)
+pub at_set : (xs : List (List ℕ)) (i : ℕ) (v : List ℕ) (j : ℕ) (y : List ℕ) → IsAt (set xs i v) j y → ((j ≡ i) × (y ≡ v)) ⊎ ((j ≢ i) × IsAt xs j y)
 at_set [] i v j y e = absurd cc
 at_set (x ∷ xs) zero v zero y e = let s : v ≡ y = cc in inl (refl, sym s)
 at_set (x ∷ xs) zero v (suc j) y e = inr (omega arith, e)

@@ -1,5 +1,7 @@
 pub mod Numbers
 pub mod Filed
+pub mod Partnered
+pub mod Paths
 pub mod Closed
 pub mod Explored
 pub mod Ended

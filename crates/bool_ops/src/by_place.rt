@@ -3,8 +3,10 @@
 ghost use Rattle.std.specs.Prelude.{◌≡◌, ◌≢◌, ◌<◌, ◌⊎◌, ◌^◌, ℕ, [], IfOk, All, AllPairs, Contains, length};
 ghost use Rattle.tree_definitions.specs.Automaton.{Rule as RuleSpec};
 ghost use Rattle.tree_definitions.specs.Relation.{IsAt};
-ghost use Rattle.bool_ops.specs.Filing.{entries_of, slot_of, HasSlots, IsFiled, RulesAt};
+ghost use Rattle.bool_ops.specs.Filing.{entries_of, slot_of, HasSlots, IsFiled};
+ghost use Rattle.bool_ops.specs.Paths.{IsByKids};
 
+use crate::by_kids::ByKids;
 use crate::pairs::{Both, Pairs};
 use std::alloc::{AllocError, Global};
 use ta_model::Rule;
@@ -12,11 +14,12 @@ use trim_ops::RuleIndex;
 
 const LEAF: [u32; 1] = [0];
 
-/// For each slot, places of rules in a list.
+/// For each slot, places of rules in a list, and the rules by all their children.
 #[derive(Drop)]
 pub(crate) struct ByPlace {
     slots: Pairs,
     lists: RuleIndex,
+    pub by_kids: ByKids,
 }
 
 /// The slot of a symbol, a place of a child and the state there.
@@ -74,10 +77,16 @@ impl ByPlace {
         ensures distinct { IfOk result (λ f. AllPairs ◌≢◌ f.slots) }
         ensures slots { IfOk result (λ f. HasSlots rules.now f.slots) }
         ensures filed { IfOk result (λ f. IsFiled rules.now f.slots f.lists) }
+        ensures by_kids { IfOk result (λ f. IsByKids rules.now f.by_kids.nodes f.by_kids.lists) }
     {
         let slots = slots_of(alloc, rules)?;
         let lists = filed(alloc, rules, &slots)?;
-        Ok(ByPlace { slots, lists })
+        let by_kids = ByKids::new(alloc, rules)?;
+        Ok(ByPlace {
+            slots,
+            lists,
+            by_kids,
+        })
     }
 
     /// The rules with this symbol and this state at this place, among others perhaps.

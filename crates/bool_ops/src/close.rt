@@ -1,15 +1,17 @@
 //! The pairs of states that one tree reaches, and the pairs of rules between them.
 
-ghost use Rattle.std.specs.Prelude.{◌≡◌, ◌≢◌, ◌↔◌, ◌<◌, ◌⊎◌, ◌^◌, ℕ, [], IfOk, IsErrOf, IsTrue, All, AllPairs, Contains, length};
+ghost use Rattle.std.specs.Prelude.{◌≡◌, ◌≢◌, ◌↔◌, ◌<◌, ◌⊎◌, ◌≤◌, ◌^◌, ℕ, [], IfOk, IsErrOf, IsTrue, All, AllPairs, Contains, length};
 ghost use Rattle.tree_definitions.specs.Automaton.{Rule as RuleSpec};
 ghost use Rattle.tree_definitions.specs.Relation.{IsAt};
 ghost use Rattle.bool_ops.specs.Closing.{AddsBelow, AreAlike, AreHeld, Grows, HasTooMany, IsClosed, Settled, SettledWith, both};
 ghost use Rattle.bool_ops.specs.Filing.{HasSlots, IsFiled};
+ghost use Rattle.bool_ops.specs.Paths.{IsByKids};
 ghost use Rattle.trim_ops.specs.Marking.{AreWithin, IsByChild};
 
 use crate::by_place::ByPlace;
 use crate::error::OpError;
 use crate::pairs::{Both, Pairs};
+use crate::reached::Reached;
 use std::alloc::AllocError;
 use ta_model::Rule;
 use trim_ops::RuleIndex;
@@ -28,7 +30,7 @@ fn are_alike(left: &Rule, right: &Rule) -> bool
 }
 
 /// Whether the children are pair by pair in the list.
-fn are_held(pairs: &Pairs, left: &[u32], right: &[u32]) -> bool
+fn are_held(pairs: &Reached, left: &[u32], right: &[u32]) -> bool
     requires { length left.now ≡ length right.now }
     ensures { IsTrue result ↔ AreHeld pairs.now left.now right.now }
 {
@@ -44,11 +46,21 @@ fn are_held(pairs: &Pairs, left: &[u32], right: &[u32]) -> bool
     true
 }
 
-/// Adds the pair, unless there are more than `most`.
-fn add_below(list: &mut Pairs, most: usize, x: Both) -> Result<(), AllocError>
-    ensures { IfOk result (λ _. AddsBelow list.old most x list.new) }
+/// Adds the pair of rules, unless there are more than `MOST_RULES`.
+fn add_rules(list: &mut Pairs, x: Both) -> Result<(), AllocError>
+    ensures { IfOk result (λ _. AddsBelow list.old 2000000 x list.new) }
 {
-    if most < list.len() {
+    if MOST_RULES < list.len() {
+        return Ok(());
+    }
+    list.add(x)
+}
+
+/// Adds the pair of states, unless there are more than `MOST_STATES`.
+fn add_state(list: &mut Reached, x: Both) -> Result<(), AllocError>
+    ensures { IfOk result (λ _. AddsBelow list.old 1000000 x list.new) }
+{
+    if MOST_STATES < list.len() {
         return Ok(());
     }
     list.add(x)
@@ -61,7 +73,7 @@ fn examine(
     theirs: &[Rule],
     r: u32,
     s: u32,
-    pairs: &mut Pairs,
+    pairs: &mut Reached,
     found: &mut Pairs,
 ) -> Result<(), AllocError>
     requires left { r < length ours.now }
@@ -81,8 +93,8 @@ fn examine(
         left: left.parent,
         right: right.parent,
     };
-    add_below(pairs, MOST_STATES, parents)?;
-    add_below(found, MOST_RULES, Both { left: r, right: s })
+    add_state(pairs, parents)?;
+    add_rules(found, Both { left: r, right: s })
 }
 
 /// Examines rule r with each rule of the list.
@@ -91,7 +103,7 @@ fn examine_each(
     theirs: &[Rule],
     r: u32,
     list: &[u32],
-    pairs: &mut Pairs,
+    pairs: &mut Reached,
     found: &mut Pairs,
 ) -> Result<(), AllocError>
     requires left { r < length ours.now }
@@ -105,20 +117,41 @@ fn examine_each(
     Ok(())
 }
 
-/// Examines rule r with each rule that has the pair's right state where r has its left state.
+/// Whether to look up the tuples of partners of the children, with one state at the place, takes fewer
+/// steps than there are rules to examine.
+fn are_fewer_tuples(pairs: &Reached, kids: &[u32], place: usize, rules: usize) -> bool
+    ensures { IsTrue result → 2 ≤ length kids.now }
+{
+    if kids.len() < 2 || rules <= kids.len() {
+        return false;
+    }
+    let mut tuples: usize = 1;
+    let mut steps: usize = 0;
+    for (i, k) in kids.iter().enumerate() {
+        if i != place {
+            tuples = tuples.saturating_mul(pairs.partners_of(*k).len());
+        }
+        steps = steps.saturating_add(tuples);
+    }
+    steps < rules
+}
+
+/// Examines rule r with each rule that has the pair's right state where r has its left state, and
+/// partners of its other children.
 fn explore_rule(
     ours: &[Rule],
     theirs: &[Rule],
     by_place: &ByPlace,
     r: u32,
     x: Both,
-    pairs: &mut Pairs,
+    pairs: &mut Reached,
     found: &mut Pairs,
 ) -> Result<(), AllocError>
     requires left { r < length ours.now }
     requires distinct { AllPairs ◌≢◌ by_place.now.slots }
     requires slots { HasSlots theirs.now by_place.now.slots }
     requires filed { IsFiled theirs.now by_place.now.slots by_place.now.lists }
+    requires by_kids { IsByKids theirs.now by_place.now.by_kids.nodes by_place.now.by_kids.lists }
     ensures grows { IfOk result (λ _. Grows ours.now theirs.now pairs.old found.old pairs.new found.new) }
     ensures settled { IfOk result (λ _. SettledWith ours.now theirs.now pairs.old pairs.new found.new r x) }
 {
@@ -128,6 +161,11 @@ fn explore_rule(
             continue;
         }
         let list = by_place.at(left.symbol, i, x.right);
+        if are_fewer_tuples(pairs, left.kids.as_slice(), i, list.len()) {
+            let matching = by_place.by_kids.matching(pairs, left, i, x.right)?;
+            examine_each(ours, theirs, r, &matching, pairs, found)?;
+            continue;
+        }
         examine_each(ours, theirs, r, list, pairs, found)?;
     }
     Ok(())
@@ -140,7 +178,7 @@ fn explore(
     by_child: &RuleIndex,
     by_place: &ByPlace,
     x: Both,
-    pairs: &mut Pairs,
+    pairs: &mut Reached,
     found: &mut Pairs,
 ) -> Result<(), AllocError>
     requires state { x.left < length by_child.now }
@@ -148,6 +186,7 @@ fn explore(
     requires distinct { AllPairs ◌≢◌ by_place.now.slots }
     requires slots { HasSlots theirs.now by_place.now.slots }
     requires filed { IsFiled theirs.now by_place.now.slots by_place.now.lists }
+    requires by_kids { IsByKids theirs.now by_place.now.by_kids.nodes by_place.now.by_kids.lists }
     ensures grows { IfOk result (λ _. Grows ours.now theirs.now pairs.old found.old pairs.new found.new) }
     ensures settled { IfOk result (λ _. (r : ℕ) → SettledWith ours.now theirs.now pairs.old pairs.new found.new r x) }
 {
@@ -162,7 +201,7 @@ fn start(
     ours: &[Rule],
     theirs: &[Rule],
     by_place: &ByPlace,
-    pairs: &mut Pairs,
+    pairs: &mut Reached,
     found: &mut Pairs,
 ) -> Result<(), AllocError>
     requires few { length ours.now < 2 ^ 32 }
@@ -190,7 +229,7 @@ pub(crate) fn close(
     theirs: &[Rule],
     by_child: &RuleIndex,
     by_place: &ByPlace,
-    pairs: &mut Pairs,
+    pairs: &mut Reached,
     found: &mut Pairs,
 ) -> Result<(), OpError>
     requires few { length ours.now < 2 ^ 32 }
@@ -199,6 +238,7 @@ pub(crate) fn close(
     requires distinct { AllPairs ◌≢◌ by_place.now.slots }
     requires slots { HasSlots theirs.now by_place.now.slots }
     requires filed { IsFiled theirs.now by_place.now.slots by_place.now.lists }
+    requires by_kids { IsByKids theirs.now by_place.now.by_kids.nodes by_place.now.by_kids.lists }
     requires no_pairs { pairs.old ≡ [] }
     requires none_found { found.old ≡ [] }
     ensures closed { IfOk result (λ _. IsClosed ours.now theirs.now pairs.new found.new) }

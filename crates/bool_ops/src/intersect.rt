@@ -16,6 +16,7 @@ use crate::close::{MOST_RULES, close};
 use crate::error::OpError;
 use crate::pairs::Pairs;
 use crate::product::{finals, in_order, names, row_of, rules_of};
+use crate::reached::Reached;
 use crate::renumber::{joined_symbols, renumber};
 use ranked_alphabet::Alphabet;
 use std::alloc::Global;
@@ -82,7 +83,7 @@ fn product_of(alloc: Global, left: &Listed, right: &Listed) -> Result<Listed, Op
     let theirs = renumber(alloc, right.rules(), &numbers)?;
     let by_child = rules_by_child(alloc, left.rules(), left.states().len())?;
     let by_place = ByPlace::new(alloc, &theirs)?;
-    let mut pairs = Pairs::new(alloc);
+    let mut pairs = Reached::new(alloc);
     let mut found = Pairs::new(alloc);
     if let Err(error) = close(
         left.rules(),
@@ -98,7 +99,15 @@ fn product_of(alloc: Global, left: &Listed, right: &Listed) -> Result<Listed, Op
     if MOST_RULES < found.len() {
         return Err(OpError::TooManyRules);
     }
-    assemble(alloc, left, right, &alphabet, &theirs, &pairs, &found)
+    assemble(
+        alloc,
+        left,
+        right,
+        &alphabet,
+        &theirs,
+        pairs.pairs(),
+        &found,
+    )
 }
 
 /// The product of both automata in canonical form, named `isect`. Its states are the pairs of places

@@ -1,12 +1,15 @@
 //! The union of two automata and their product.
 #![tactic(auto)]
 
+mod by_kids;
 mod by_place;
 mod close;
 mod error;
 mod intersect;
 mod pairs;
+mod partners;
 mod product;
+mod reached;
 mod renumber;
 mod unite;
 

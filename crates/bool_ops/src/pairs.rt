@@ -1,12 +1,12 @@
 //! Pairs of places, and numbered lists of distinct ones.
 
-ghost use Rattle.std.specs.Prelude.{◌≡◌, ◌↔◌, ◌<◌, ◌≢◌, [], IfOk, IfSome, IfNone, IsTrue, length, AllPairs, Contains};
+ghost use Rattle.std.specs.Prelude.{◌≡◌, ◌↔◌, ◌<◌, ◌≢◌, [], IfOk, IfSome, IfNone, IsTrue, OnErr, length, AllPairs, Contains};
 ghost use Rattle.tree_definitions.specs.Relation.{IsAt};
 ghost use Rattle.bool_ops.specs.Closing.{Adds};
 
 use indexmap::IndexSet;
 use std::alloc::{AllocError, Global};
-use std::hash::{BuildHasherDefault, DefaultHasher};
+use std::hash::{BuildHasherDefault, FoldHasher};
 use std::marker::Model;
 
 /// A place of the left automaton and one of the right. Pairs are ordered by the left place and then
@@ -30,7 +30,7 @@ impl Model for Both {
 /// Distinct pairs, numbered from 0 in the order in which they came. It is seen as their list.
 #[derive(Drop)]
 pub(crate) struct Pairs {
-    pairs: IndexSet<Both, BuildHasherDefault<DefaultHasher>>,
+    pairs: IndexSet<Both, BuildHasherDefault<FoldHasher>>,
 }
 
 impl Model for Pairs {
@@ -52,6 +52,11 @@ impl Pairs {
         Pairs {
             pairs: IndexSet::with_hasher(alloc, BuildHasherDefault::new()),
         }
+    }
+
+    /// The allocator of the list.
+    pub fn alloc(&self) -> Global {
+        *self.pairs.allocator()
     }
 
     /// The number of pairs.
@@ -89,15 +94,26 @@ impl Pairs {
     pub fn find(&self, x: Both) -> Option<usize>
         ensures found { IfSome result (λ i. IsAt self.now i x) }
         ensures none { IfNone result (Contains self.now x → ⊥) }
+        ensures distinct { AllPairs ◌≢◌ self.now }
     {
         self.pairs.get_index_of(&x)
     }
 
     /// Adds the pair behind the others if it is new.
     pub fn add(&mut self, x: Both) -> Result<(), AllocError>
-        ensures { IfOk result (λ _. Adds self.old x self.new) }
+        ensures ok { IfOk result (λ _. Adds self.old x self.new) }
+        ensures err { OnErr result (self.new ≡ self.old) }
     {
         self.pairs.insert(x)?;
         Ok(())
+    }
+
+    /// The number of the pair, which is added behind the others if it is new.
+    pub fn number(&mut self, x: Both) -> Result<usize, AllocError>
+        ensures added { IfOk result (λ _. Adds self.old x self.new) }
+        ensures at { IfOk result (λ i. IsAt self.new i x) }
+    {
+        let (i, _) = self.pairs.insert_full(x)?;
+        Ok(i)
     }
 }

@@ -1,3 +1,4 @@
+mod Counted
 mod Canonical
 mod Identity
 pub mod Meaning

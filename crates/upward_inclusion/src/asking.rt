@@ -7,6 +7,7 @@ ghost use Rattle.antichain_up.specs.Orders.{IsUpOrder};
 ghost use Rattle.certificate_kinds.specs.Answers.{IsDecided, IsUpAnswer};
 ghost use Rattle.upward_inclusion.specs.Inclusion.{IsInclusionAnswer};
 
+use crate::limits::judge_limits;
 use crate::relation::relations_of;
 use antichain_up::includes;
 use bit_matrix::Matrix;
@@ -44,6 +45,32 @@ fn searched(
     includes(alloc, &mut pair, left, right, budget)
 }
 
+/// The answer of a search over the relations of these two, which are within the limits.
+fn answered(
+    alloc: Global,
+    a: &Listed,
+    b: &Listed,
+    sim: bool,
+    budget: u64,
+) -> Result<Certificate, AllocError>
+    requires together { FitTogether a.now b.now }
+    requires few_symbols { length (joint_symbols a.now.symbols b.now.symbols) ≤ 65535 }
+    requires left { length a.now.states ≤ 20000 }
+    requires right { length b.now.states ≤ 20000 }
+    requires some { 1 ≤ budget }
+    requires few { budget ≤ 1000000 }
+    ensures answer { IfOk result (IsInclusionAnswer sim budget a.now b.now) }
+    ensures decided { length a.now.states * 2 ^ length b.now.states ≤ budget → IfOk result IsDecided }
+{
+    let (left, right) = relations_of(alloc, a, b, sim)?;
+    let pair = match ExplicitPair::from_listed(a, b) {
+        Ok(pair) => pair,
+        Err(PairError::Symbols) => unreachable!(),
+        Err(PairError::Memory) => return Err(AllocError),
+    };
+    searched(alloc, pair, &left, &right, budget)
+}
+
 /// Whether each tree that `a` accepts is accepted by `b`, by an upward search that stops once it has
 /// made more than `budget` pairs, those that were taken out again among them. It goes over the
 /// greatest upward simulations of the two with `sim`, and else over the identities.
@@ -66,18 +93,10 @@ pub fn includes_upward(
         → (length (joint_symbols a.now.symbols b.now.symbols) ≤ 65535)
         × ((20000 < length a.now.states) ⊎ (20000 < length b.now.states)) }
 {
-    // Too many symbols are told first, also where a relation is too large.
-    let relations = relations_of(alloc, a, b, sim);
-    let pair = match ExplicitPair::from_listed(a, b) {
-        Ok(pair) => pair,
-        Err(PairError::Symbols) => return Err(InclusionError::Symbols),
-        Err(PairError::Memory) => return Err(InclusionError::Memory),
-    };
-    let (left, right) = match relations {
-        Ok(both) => both,
-        Err(error) => return Err(error),
-    };
-    match searched(alloc, pair, &left, &right, budget) {
+    if let Err(error) = judge_limits(alloc, a, b) {
+        return Err(error);
+    }
+    match answered(alloc, a, b, sim, budget) {
         Ok(certificate) => Ok(certificate),
         Err(_) => Err(InclusionError::Memory),
     }

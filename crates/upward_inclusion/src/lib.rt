@@ -3,6 +3,7 @@
 #![tactic(auto)]
 
 mod asking;
+mod limits;
 mod relation;
 
 pub use asking::{InclusionError, includes_upward};

@@ -22,7 +22,7 @@ loop-i-preserved c =
     let there : IsAt (entries_of rule.kids) i q = subst (λ xs. IsAt xs i q) entries (slice_get-get_or list i 0 c.loop-i-test.true) in
     let slot : c.slot.result ≡ slot_of rule.symbol i q = c.slot.ensures ∙ ap (λ (o : Rule). slot_of o.symbol i q) c.rule.view_is in
     slots_add rules (λ s j. (s < r) ⊎ ((s ≡ r) × (j < i))) (λ s j. (s < r) ⊎ ((s ≡ r) × (j < i + 1))) c.loop-i.slots c.add.new.self r rule i q at there c.loop-i.invariant
-    (subst (λ (x : Both). Adds c.loop-i.slots x c.add.new.self) slot c.in_ok-add.ensures)
+    (subst (λ (x : Both). Adds c.loop-i.slots x c.add.new.self) slot c.in_ok-add.ensures.ok)
     (λ s j d. elim d [
       | inl l ↦ inl (inl l)
       | inr (e, l) ↦ ⊎_elim (λ (f : j ≡ i). inr (e, f)) (λ (g : j ≢ i). inl (inr (e, omega arith))) (cases_eq j i)

@@ -14,7 +14,7 @@ returns-clause-grows c =
     let left = c.index-ours-r.result in
     let right = c.index-theirs-s.result in
     let p = c.args.pairs.now in
-    let p2 = c.add_below.new.list in
+    let p2 = c.add_state.new.list in
     let f = c.args.found.now in
     let rat : IsAt ours c.args.r left = slice_get_read ours (length ours) c.args.r left refl c.requires.left c.index-ours-r.is in
     let sat : IsAt theirs c.args.s right = slice_get_read theirs (length theirs) c.args.s right refl c.requires.right c.index-theirs-s.is in
@@ -25,9 +25,9 @@ returns-clause-grows c =
     subst (AreHeld p left.kids) ls (subst (λ k. AreHeld p k c.as_slice-2.result.now) ks (c.are_held.ensures.0 c.if-not-are_held.false)) in
     let states : AddsBelow p 1000000 (both left.parent right.parent) p2 =
     subst (λ (o : Rule). AddsBelow p 1000000 (both left.parent o.parent) p2) c.right.view_is
-    (subst (λ (o : Rule). AddsBelow p 1000000 (both o.parent c.right.inside.parent) p2) c.left.view_is c.in_ok-add_below.ensures) in
-    IfOk-weaker c.add_below-2.result _ (λ _. Grows ours theirs p f p2 c.add_below-2.new.list)
-    (λ _ rules. taken_grows ours theirs p f p2 c.add_below-2.new.list c.args.r c.args.s left right rat sat alike held states rules) c.add_below-2.ensures
+    (subst (λ (o : Rule). AddsBelow p 1000000 (both o.parent c.right.inside.parent) p2) c.left.view_is c.in_ok-add_state.ensures) in
+    IfOk-weaker c.add_rules.result _ (λ _. Grows ours theirs p f p2 c.add_rules.new.list)
+    (λ _ rules. taken_grows ours theirs p f p2 c.add_rules.new.list c.args.r c.args.s left right rat sat alike held states rules) c.add_rules.ensures
 
 pub returns-clause-settled : goal.returns-clause-settled
 returns-clause-settled c =
@@ -36,7 +36,7 @@ returns-clause-settled c =
     let left = c.index-ours-r.result in
     let right = c.index-theirs-s.result in
     let p = c.args.pairs.now in
-    let p2 = c.add_below.new.list in
+    let p2 = c.add_state.new.list in
     let f = c.args.found.now in
     let rat : IsAt ours c.args.r left = slice_get_read ours (length ours) c.args.r left refl c.requires.left c.index-ours-r.is in
     let sat : IsAt theirs c.args.s right = slice_get_read theirs (length theirs) c.args.s right refl c.requires.right c.index-theirs-s.is in
@@ -47,9 +47,9 @@ returns-clause-settled c =
     subst (AreHeld p left.kids) ls (subst (λ k. AreHeld p k c.as_slice-2.result.now) ks (c.are_held.ensures.0 c.if-not-are_held.false)) in
     let states : AddsBelow p 1000000 (both left.parent right.parent) p2 =
     subst (λ (o : Rule). AddsBelow p 1000000 (both left.parent o.parent) p2) c.right.view_is
-    (subst (λ (o : Rule). AddsBelow p 1000000 (both o.parent c.right.inside.parent) p2) c.left.view_is c.in_ok-add_below.ensures) in
-    IfOk-weaker c.add_below-2.result _ (λ _. Settled ours theirs p p2 c.add_below-2.new.list c.args.r c.args.s)
-    (λ _ rules. taken_settled ours theirs p f p2 c.add_below-2.new.list c.args.r c.args.s left right rat sat alike held states rules) c.add_below-2.ensures
+    (subst (λ (o : Rule). AddsBelow p 1000000 (both o.parent c.right.inside.parent) p2) c.left.view_is c.in_ok-add_state.ensures) in
+    IfOk-weaker c.add_rules.result _ (λ _. Settled ours theirs p p2 c.add_rules.new.list c.args.r c.args.s)
+    (λ _ rules. taken_settled ours theirs p f p2 c.add_rules.new.list c.args.r c.args.s left right rat sat alike held states rules) c.add_rules.ensures
 
 pub returns-then-not-are_alike-clause-grows : goal.returns-then-not-are_alike-clause-grows
 returns-then-not-are_alike-clause-grows c = grows_none c.args.ours.now c.args.theirs.now c.args.pairs.now c.args.found.now

@@ -15,7 +15,7 @@ loop-x-preserved c =
     subst (IsPermutation pairs) (sym c.deref-x-items.ensures.value)
     (subst (λ xs. IsPermutation xs c.sort.new.self.items) (c.in_ok-list.ensures.items ∙ c.list.ensures.value) c.sort.ensures.permutation) in
     let apart : AllPairs ◌≢◌ items = still_apart pairs items c.list.ensures.distinct permutation in
-    next_added items c.loop-x.x-index c.x-item.result c.loop-x.sorted c.add.new.self apart c.loop-x-test.true c.x-item.is c.loop-x.invariant c.in_ok-add.ensures
+    next_added items c.loop-x.x-index c.x-item.result c.loop-x.sorted c.add.new.self apart c.loop-x-test.true c.x-item.is c.loop-x.invariant c.in_ok-add.ensures.ok
 
 pub returns-clause-rising : goal.returns-clause-rising
 returns-clause-rising c =

@@ -1,6 +1,5 @@
 use Rattle.std.proofs.Common.{◌∙◌, ◌<◌, ◌+◌, ◌-◌, List, get_or, length, refl, sym, ap, subst, arith}
 use Rattle.std.proofs.lemmas.Bool.{false≢true}
-use Rattle.std.proofs.lemmas.Option.{slice_get_within}
 use Rattle.antichain_up.specs.ByState.{AreByState}
 use Rattle.antichain_up.specs.Entries.{EntryList, EntryRow}
 use Rattle.antichain_up.proofs.Grouped.{numbers_within}
@@ -22,17 +21,16 @@ returns-then-has_below c =
     let by_state : AreByState list lists = subst (λ s. AreByState s lists) c.self.view_is c.self.invariant.1 in
     let some = c.has_below.ensures.0 c.if-has_below.true in
     let there = subst (SomeOf c.args.store.now c.args.orders.now c.args.state c.args.set list c.at.result.now) (c.deref.ensures.value ∙ ap (λ (s : EntryList). s.rows) c.self.view_is) some in (
-      λ _. covered c.args.store.now c.args.orders.now c.args.state c.args.set list lists c.in-Some.r c.at.result.now by_state c.at.ensures ((c.above-above.ensures.members c.in-Some.r).0 c.in-Some.ensures.least.set) there,
+      λ _. covered c.args.store.now c.args.orders.now c.args.state c.args.set list lists c.in-Some.r c.at.result.now by_state c.at.ensures c.in-Some.ensures.least.member there,
       λ _. refl,
     )
 
 pub loop-r-smaller : goal.loop-r-smaller
 loop-r-smaller c =
-    let w = slice_get_within c.above-above.result.now c.in-Some.r _ c.in-Some.ensures.least.set in
-    let long = c.above-above.ensures.long in
+    let w = c.in-Some.ensures.within in
     let square = c.requires.orders.left_square.rows in
     let from = c.in-Some.ensures.least.from_on in
-    let l : c.args.self.now.states - (c.in-Some.r + 1) < c.args.self.now.states - c.loop-r.from = omega (arith, w, long, square, from) in
+    let l : c.args.self.now.states - (c.in-Some.r + 1) < c.args.self.now.states - c.loop-r.from = omega (arith, w, square, from) in
     l
 
 pub loop-r-preserved : goal.loop-r-preserved
@@ -40,13 +38,11 @@ loop-r-preserved c =
     let list = c.args.self.now in
     let lists = c.self.inside.by_state in
     let by_state : AreByState list lists = subst (λ s. AreByState s lists) c.self.view_is c.self.invariant.1 in
-    let w = slice_get_within c.above-above.result.now c.in-Some.r _ c.in-Some.ensures.least.set in
-    let long = c.above-above.ensures.long in
+    let w = c.in-Some.ensures.within in
     let square = c.requires.orders.left_square.rows in
     record {
-      within = omega (arith, w, long, square);
-      none = none_more c.args.store.now c.args.orders.now c.args.state c.args.set list lists c.loop-r.from c.in-Some.r c.above-above.result.now c.at.result.now by_state c.at.ensures
-          (λ q. (c.above-above.ensures.members q).1) c.in-Some.ensures.least
+      within = omega (arith, w, square);
+      none = none_more c.args.store.now c.args.orders.now c.args.state c.args.set list lists c.loop-r.from c.in-Some.r c.at.result.now by_state c.at.ensures c.in-Some.ensures.least
           (λ some. false≢true (sym c.if-has_below.false ∙ c.has_below.ensures.1
           (subst (SomeOf c.args.store.now c.args.orders.now c.args.state c.args.set list c.at.result.now) (sym (c.deref.ensures.value ∙ ap (λ (s : EntryList). s.rows) c.self.view_is)) some)))
           c.loop-r.invariant.none;
@@ -55,6 +51,6 @@ loop-r-preserved c =
 pub returns : goal.returns
 returns c = (
   λ h. absurd (false≢true h),
-  λ over. absurd (none_covers c.args.store.now c.args.orders.now c.args.state c.args.set c.args.self.now c.loop-r.from c.above-above.result.now (λ q. (c.above-above.ensures.members q).1)
+  λ over. absurd (none_covers c.args.store.now c.args.orders.now c.args.state c.args.set c.args.self.now c.loop-r.from
       (c.in_default.ensures.none.0 refl) c.loop-r.invariant.none over),
 )

@@ -17,7 +17,7 @@ returns-then-set-other_set c =
 
 pub returns-then-self : goal.returns-then-self
 returns-then-self c =
-    let R = c.self.inside.right in
+    let R = c.self.inside.right.now in
     let long : length c.row-row.result.now ≡ length R = c.row-row.ensures.width ∙ c.requires.wide ∙ sym (ap (λ (o : TwoOrders). length o.right) c.self.view_is) in
     let same = subset_below R c.row-row.result.now c.row-other.result.now (c.self.invariant.1 c.if-self.true) long in
     let P : TwoOrders → Type 0 = λ o. IsTrue c.subset_of.result ↔ Below (Holds o.right) (Has c.row-row.result.now) (Has c.row-other.result.now) in
